@@ -1,0 +1,20 @@
+ghost use denote.Ref.{now as held};
+ghost use lib.ListN.{length};
+ghost use Prim.Native.Nat.{_≤_};
+use book::Book;
+
+// A row and a book that passed the test. Only the test makes one.
+#[derive(Drop)]
+pub struct RowTest<'a> {
+    pub(crate) row: &'a [u16],
+    pub(crate) book: &'a Book,
+    ghost short: { length (held row) ≤ 20000 },
+}
+
+// The boxes of a row, and the motifs of a book that are spelled out box by box.
+#[derive(Drop)]
+pub struct RowSource<'a> {
+    pub(crate) row: &'a [u16],
+    pub(crate) book: &'a Book,
+    ghost short: { length (held row) ≤ 20000 },
+}
