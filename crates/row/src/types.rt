@@ -3,7 +3,7 @@ ghost use lib.ListN.{length};
 ghost use Prim.Native.Nat.{_≤_};
 use book::Book;
 
-// A row and a book that passed the test. Only the test makes one.
+// A row and a book that passed the test, which alone makes one.
 #[derive(Drop)]
 pub struct RowTest<'a> {
     pub(crate) row: &'a [u16],
@@ -11,7 +11,7 @@ pub struct RowTest<'a> {
     ghost short: { length (held row) ≤ 20000 },
 }
 
-// The boxes of a row, and the motifs of a book that are spelled out box by box.
+// A row and a book, asked for the stretches of the motifs that have a body.
 #[derive(Drop)]
 pub struct RowSource<'a> {
     pub(crate) row: &'a [u16],
