@@ -1,7 +1,13 @@
 // Why a call refuses: one named case for each of the 25 numbers of docs/REFUSALS.md.
+ghost use lib.Chars.{codes};
+ghost use mathlib.Core.List.{_++_};
 ghost use mathlib.Core.Path.{_≡_};
 ghost use Prim.Native.Nat.{_≤_};
+ghost use Rattle.std.specs.declared.option.Option.the-variants.{Some};
 ghost use Rattle.std.specs.Orderings.{Decides};
+ghost use Rattle.std.specs.Written.{decimal};
+use std::error::Error;
+use std::fmt;
 ghost use Rattle.refusal.specs.Numbers.{numberOf};
 
 #[derive(Clone, Copy, Debug)]
@@ -104,3 +110,15 @@ pub impl PartialEq<Refusal> for Refusal as RefusalPartialEq {
 }
 
 pub impl Eq for Refusal as RefusalEq {}
+
+// What a program says of a refusal that it didn't expect.
+pub impl fmt::Display for Refusal as RefusalDisplay {
+    ghost shown = { λ x. Some (codes "refused by " ++ decimal (numberOf x)) };
+
+    fn fmt<W: fmt::Write>(&self, f: &mut fmt::Formatter<W>) -> fmt::Result {
+        let number = self.number();
+        write!(f, "refused by {number}")
+    }
+}
+
+pub impl Error for Refusal as RefusalError {}
