@@ -11,11 +11,11 @@ use Rattle.std.specs.shelf.Text.{sameBytes}
 use Rattle.std.proofs.shelf.Lists.{length-push}
 use Rattle.std.proofs.shelf.Equals.{sameBytes-decides}
 use Rattle.std.proofs.shelf.Tests.{and-parts, and-from, or-parts, or-from, not-true, not-from-false, cases-bool, both-ways, ltb-true, lt-ltb}
-use Rattle.book.specs.Lists.{every, any}
+use Rattle.entry.specs.Lists.{every, any}
 use Rattle.book.specs.Entries.{taken, distinct, Unique, known, allKnown, held, allHeld}
-use Rattle.book.specs.Rules.{motifsOf}
-use Rattle.book.specs.declared.values.mark.Mark.{Mark}
-use Rattle.book.specs.declared.values.rule.Rule.{Rule}
+use Rattle.entry.specs.Rules.{motifsOf}
+use Rattle.entry.specs.declared.mark.Mark.{Mark}
+use Rattle.entry.specs.declared.rule.Rule.{Rule}
 
 pub every-push : {X : Type 0} (test : X → Bool) (xs : List X) (y : X) → every test xs ≡ true → test y ≡ true → every test (xs ++ y ∷ []) ≡ true
 every-push test [] y h t = and-from (test y) true t refl

@@ -15,9 +15,9 @@ use std::alloc::Global;
 
 use crate::values::book::Book;
 use crate::values::chapter::Chapter;
-use crate::values::mark::Mark;
-use crate::values::motif::Motif;
-use crate::values::rule::Rule;
+use entry::Mark;
+use entry::Motif;
+use entry::Rule;
 
 // Appends codes for which there is room already, so that it can't want memory.
 fn append(row: &mut Vec<u16>, codes: &[u16])
@@ -42,12 +42,6 @@ impl Chapter {
         let row = Vec::with_capacity(heap, 20_000)?;
         let marks = Vec::with_capacity(heap, 4_000)?;
         Ok(Chapter { book, row, marks })
-    }
-
-    pub fn book(&self) -> &Book
-        ensures { λ r. ⌜ now r ≡ now (self .entry) .book ⌝ }
-    {
-        &self.book
     }
 
     // The codes of the boxes, at most 20,000.

@@ -7,9 +7,9 @@ use native.Mathlib.Omega.{arith}
 use lib.ListN.{length, take, drop, getD}
 use Rattle.std.proofs.shelf.Lists.{drop-more, drop-all, take-rest, getD-map, getD-past, length-map}
 use Rattle.std.proofs.shelf.Tests.{and-from, and-right, eq-eqb, both-ways}
-use Rattle.book.specs.Bodies.{items, fits, allFit}
-use Rattle.book.specs.declared.values.body.Item.{Item}
-use Rattle.book.specs.declared.values.motif.Motif.{Motif}
+use Rattle.entry.specs.Bodies.{items, fits, allFit}
+use Rattle.entry.specs.declared.body.Item.{Item}
+use Rattle.entry.specs.declared.motif.Motif.{Motif}
 use Rattle.row.specs.Row.{itemsAt, stands}
 use Rattle.row.specs.Laws.{standing}
 

@@ -10,10 +10,10 @@ use Rattle.refusal.specs.Checks.{refuse}
 use Rattle.refusal.specs.declared.Refusal.{Refusal}
 use Rattle.refusal.specs.declared.Refusal.the-variants.{SourceTooLong}
 use Rattle.book.specs.Adding.{motifsIn}
-use Rattle.book.specs.Bodies.{items, allFit}
-use Rattle.book.specs.declared.values.body.Item.{Item}
+use Rattle.entry.specs.Bodies.{items, allFit}
+use Rattle.entry.specs.declared.body.Item.{Item}
 use Rattle.book.specs.declared.values.book.Book.{Book}
-use Rattle.book.specs.declared.values.motif.Motif.{Motif}
+use Rattle.entry.specs.declared.motif.Motif.{Motif}
 use Rattle.source.specs.Meaning.{Meaning, Price}
 
 -- `itemsAt ms k`        the items of motif k's body; none where it has no body, or there is no such motif

@@ -5,7 +5,7 @@ use Prim.Native.Nat.{_≤_}
 use Rattle.std.specs.Of.Vec.{vec-items, vec-len}
 use Rattle.std.proofs.shelf.Lists.{map-push}
 use Rattle.book.specs.Entries.{distinct, motifNames, taken}
-use Rattle.book.specs.Named.{lettersOf}
+use Rattle.entry.specs.Named.{lettersOf}
 use Rattle.book.proofs.Entries.{distinct-push, known-more}
 use Rattle.book.proofs.values.book.Book.add_motif.Needs as need
 

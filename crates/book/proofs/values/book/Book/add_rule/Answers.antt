@@ -5,9 +5,9 @@ use lib.Dec.{ltb}
 use Rattle.std.specs.Of.Vec.{vec-items, vec-len}
 use Rattle.std.proofs.shelf.Lists.{map-push}
 use Rattle.book.specs.Entries.{allKnown, distinct, known, ruleNames, taken}
-use Rattle.book.specs.Lists.{every}
-use Rattle.book.specs.Named.{lettersOf}
-use Rattle.book.specs.Rules.{motifsOf}
+use Rattle.entry.specs.Lists.{every}
+use Rattle.entry.specs.Named.{lettersOf}
+use Rattle.entry.specs.Rules.{motifsOf}
 use Rattle.book.proofs.Entries.{distinct-push, every-push}
 use Rattle.book.proofs.values.book.Book.add_rule.Needs as need
 

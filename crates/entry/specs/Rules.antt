@@ -1,0 +1,44 @@
+-- What a rule means: its first motif and, for each further one, the range that leads to it.
+use mathlib.Core.List.{List, [], _∷_}
+use Prim.Native.Nat.{ℕ, _+_, _-_}
+use lib.IntN.{ℤ, _-ℤ_, _+ℤ_, pos, natAbs}
+use lib.ListN.{take}
+use Rattle.entry.specs.declared.range.Range.{Range}
+use Rattle.entry.specs.declared.rule.Rule.{Rule}
+
+-- `motifsOf r`      the motifs of a rule, by their numbers
+abbrev pub motifsOf : Rule → List ℕ
+motifsOf r = take (r .len) (r .motifs)
+
+-- `rangesOf r`      its ranges, the k-th between motif k and motif k + 1
+abbrev pub rangesOf : Rule → List Range
+rangesOf r = take (r .len - 1) (r .ranges)
+
+-- `widthOf g`       the number of places that a range allows
+abbrev pub widthOf : Range → ℕ
+widthOf g = natAbs (g .high -ℤ g .low) + 1
+
+-- a range and the motif beyond it
+pub record Link : Type 0 where
+  pub low : ℤ
+  pub high : ℤ
+  pub motif : ℕ
+
+-- `first`           the first motif's number
+-- `links`           the others, each with the range before it
+pub record Net : Type 0 where
+  pub first : ℕ
+  pub links : List Link
+
+abbrev pub linksOf : List ℕ → List Range → List Link
+linksOf [] gs = []
+linksOf (m ∷ ms) [] = []
+linksOf (m ∷ ms) (g ∷ gs) = record { low = g .low; high = g .high; motif = m } ∷ linksOf ms gs
+
+abbrev pub netFrom : List ℕ → List Range → Net
+netFrom [] gs = record { first = 0; links = [] }
+netFrom (m ∷ ms) gs = record { first = m; links = linksOf ms gs }
+
+-- `netOf r`         what the rule r asks for
+abbrev pub netOf : Rule → Net
+netOf r = netFrom (motifsOf r) (rangesOf r)
