@@ -28,6 +28,7 @@ use source::Source;
 use std::alloc::AllocError;
 use std::alloc::Global;
 use std::error::AnyError;
+use std::io;
 
 const ROW: [u16; 12] = [97, 45, 98, 99, 100, 45, 101, 45, 102, 45, 103, 104];
 
@@ -40,8 +41,7 @@ const LE: usize = 1;
 const LE_MARKS: [usize; 4] = [2, 6, 10, 12];
 
 // The motif hy is the one box 45; le has no body, only marks.
-fn ladder_page(heap: Global) -> Result<Chapter, AnyError> {
-    let mut chapter = Chapter::new(heap)?;
+fn add_motifs(chapter: &mut Chapter) -> Result<(), Refusal> {
     let hyphen = Body::new(&[Item::Code(45)])?;
     chapter.add_motif(Motif {
         name: Name::new(b"hy")?,
@@ -52,8 +52,10 @@ fn ladder_page(heap: Global) -> Result<Chapter, AnyError> {
         name: Name::new(b"le")?,
         weight: 1500,
         body: None,
-    })?;
-    chapter.add_boxes(&ROW)?;
+    })
+}
+
+fn add_marks(chapter: &mut Chapter) -> Result<(), Refusal> {
     for place in LE_MARKS {
         chapter.add_mark(Mark {
             motif: LE,
@@ -61,6 +63,14 @@ fn ladder_page(heap: Global) -> Result<Chapter, AnyError> {
             end: place,
         })?;
     }
+    Ok(())
+}
+
+fn ladder_page(heap: Global) -> Result<Chapter, AnyError> {
+    let mut chapter = Chapter::new(heap)?;
+    add_motifs(&mut chapter)?;
+    chapter.add_boxes(&ROW)?;
+    add_marks(&mut chapter)?;
     Ok(chapter)
 }
 
@@ -90,12 +100,13 @@ fn write_stretches<S: PricedSource>(heap: Global, source: &S, motif: usize, line
 }
 
 // One line: the motif, the source, its length, the two prices, and the stretches.
-fn line_of<S: PricedSource>(heap: Global, name: &str, by: &str, source: &S, motif: usize) -> Result<String, AllocError> {
+fn show<S: PricedSource>(rt: &LibcRuntime, name: &str, by: &str, source: &S, motif: usize) -> io::Result<()> {
+    let heap = rt.alloc();
     let length = source.length();
     let (look, opening) = source.prices(motif);
     let mut line = format!(heap, "{name} {by} {length} {look},{opening}:")?;
     write_stretches(heap, source, motif, &mut line)?;
-    Ok(line)
+    rt.println(line)
 }
 
 fn both_of(heap: Global, chapter: &Chapter) -> Result<Both<RowSource<'_>, MarkSource>, AnyError> {
@@ -110,10 +121,10 @@ fn run(rt: &LibcRuntime) -> Result<(), AnyError> {
     let both = both_of(heap, &chapter)?;
     let window = Window::new(both_of(heap, &chapter)?, 6, 10);
     for (motif, name) in NAMES.iter().enumerate() {
-        rt.println(line_of(heap, name, "row", &row, motif)?)?;
-        rt.println(line_of(heap, name, "marks", &marks, motif)?)?;
-        rt.println(line_of(heap, name, "both", &both, motif)?)?;
-        rt.println(line_of(heap, name, "window", &window, motif)?)?;
+        show(rt, name, "row", &row, motif)?;
+        show(rt, name, "marks", &marks, motif)?;
+        show(rt, name, "both", &both, motif)?;
+        show(rt, name, "window", &window, motif)?;
     }
     Ok(())
 }
