@@ -31,7 +31,7 @@ fit-short [] xs h = absurd (omega arith)
 fit-short (i ∷ is) [] h = refl
 fit-short (i ∷ is) (x ∷ xs) h = and-right (fits i x) (allFit is xs) (fit-short is xs (omega arith))
 
-stands-from : (is : List Item) (xs : List ℕ) (a b : ℕ) → 0 < length is → b ≡ a + length is → allFit is (drop a xs) ≡ true → stands is xs a b ≡ true
+pub stands-from : (is : List Item) (xs : List ℕ) (a b : ℕ) → 0 < length is → b ≡ a + length is → allFit is (drop a xs) ≡ true → stands is xs a b ≡ true
 stands-from [] xs a b h e f = absurd (omega arith)
 stands-from (i ∷ is) xs a b h e f = and-from _ _ (eq-eqb b (a + length (i ∷ is)) e) f
 
