@@ -14,30 +14,37 @@ motifsOf r = take (r .len) (r .motifs)
 abbrev pub rangesOf : Rule → List Range
 rangesOf r = take (r .len - 1) (r .ranges)
 
--- `widthOf g`       the number of places that a range allows
-abbrev pub widthOf : Range → ℕ
-widthOf g = natAbs (g .high -ℤ g .low) + 1
+-- how far a start may lie from the end before it
+pub record Span : Type 0 where
+  pub low : ℤ
+  pub high : ℤ
+
+abbrev pub spanOf : Range → Span
+spanOf g = record { low = g .low; high = g .high }
+
+-- `width g`         the number of places that a range allows
+abbrev pub width : Span → ℕ
+width g = natAbs (g .high -ℤ g .low) + 1
 
 -- a range and the motif beyond it
 pub record Link : Type 0 where
-  pub low : ℤ
-  pub high : ℤ
+  pub range : Span
   pub motif : ℕ
 
 -- `first`           the first motif's number
--- `links`           the others, each with the range before it
+-- `rest`            the others, each with the range before it
 pub record Net : Type 0 where
   pub first : ℕ
-  pub links : List Link
+  pub rest : List Link
 
 abbrev pub linksOf : List ℕ → List Range → List Link
 linksOf [] gs = []
 linksOf (m ∷ ms) [] = []
-linksOf (m ∷ ms) (g ∷ gs) = record { low = g .low; high = g .high; motif = m } ∷ linksOf ms gs
+linksOf (m ∷ ms) (g ∷ gs) = record { range = spanOf g; motif = m } ∷ linksOf ms gs
 
 abbrev pub netFrom : List ℕ → List Range → Net
-netFrom [] gs = record { first = 0; links = [] }
-netFrom (m ∷ ms) gs = record { first = m; links = linksOf ms gs }
+netFrom [] gs = record { first = 0; rest = [] }
+netFrom (m ∷ ms) gs = record { first = m; rest = linksOf ms gs }
 
 -- `netOf r`         what the rule r asks for
 abbrev pub netOf : Rule → Net

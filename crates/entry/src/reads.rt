@@ -5,7 +5,7 @@ ghost use Prim.Native.Nat.{_≤_};
 ghost use Rattle.entry.specs.Bodies.{codesOf, fits, itemsOf};
 ghost use Rattle.entry.specs.Lists.{any};
 ghost use Rattle.entry.specs.Named.{lettersOf};
-ghost use Rattle.entry.specs.Rules.{motifsOf, rangesOf, widthOf};
+ghost use Rattle.entry.specs.Rules.{motifsOf, rangesOf, spanOf, width};
 use crate::body::Body;
 use crate::body::Class;
 use crate::body::Item;
@@ -64,7 +64,7 @@ impl Body {
 impl Range {
     // The number of places that the range allows, 1 to 4,001.
     pub fn width(self) -> usize
-        ensures value { λ r. ⌜ r ≡ widthOf self ⌝ }
+        ensures value { λ r. ⌜ r ≡ width (spanOf self) ⌝ }
         ensures bound { λ r. ⌜ (1 ≤ r) × (r ≤ 4001) ⌝ }
     {
         (self.high - self.low + 1) as usize

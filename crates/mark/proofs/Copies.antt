@@ -15,7 +15,7 @@ use Rattle.std.proofs.shelf.Ways.{tells}
 use Rattle.entry.specs.declared.mark.Mark.{Mark}
 use Rattle.mark.specs.declared.key.Key.{Key}
 use Rattle.mark.specs.Keys.{anyKey, endKey, isKey, startKey, startMark}
-use Rattle.mark.specs.Marks.{anyMark, isMark}
+use Rattle.mark.specs.Marks.{anyMark}
 
 pub marks-again : (ms : List Mark) → map startMark (map startKey ms) ≡ ms
 marks-again [] = refl

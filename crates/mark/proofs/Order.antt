@@ -1,6 +1,6 @@
 -- The order of keys is total. Assumes nothing.
-use mathlib.Core.Path.{_≡_, sym, ap, _∙_}
-use mathlib.Core.Logic.{_⊎_, inl, inr, ⊎-elim}
+use mathlib.Core.Path.{_≡_, ap, _∙_}
+use mathlib.Core.Logic.{_⊎_, ⊎-elim}
 use Prim.Native.Nat.{ℕ, _<_}
 use Rattle.std.specs.Keys.{Total, both-alike, both-flip, both-trans, pairs, rank, unsigned}
 use Rattle.std.specs.Orderings.{Ranked, thenBy}

@@ -27,6 +27,7 @@ abbrev pub faultFrom : ℕ → Option Mark → ℕ → List Mark → Option Mark
 faultFrom n p e [] = None
 faultFrom n p e (m ∷ ms) = refuse (not (fits n p m)) (Entry e) (faultFrom n (Some m) (e + 1) ms)
 
+-- the length is judged before the marks
 abbrev pub markFault : ℕ → List Mark → Option MarkFault
 markFault n ms = refuse (ltb 20000 n) TooLong (faultFrom n None 0 ms)
 

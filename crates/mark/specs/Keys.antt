@@ -11,7 +11,9 @@ use Rattle.std.specs.declared.cmp.Ordering.{Ordering}
 use Rattle.entry.specs.declared.mark.Mark.{Mark}
 use Rattle.mark.specs.declared.key.Key.{Key}
 
--- by start, for the end question; by end, for the start question; and the mark that a key by start stands for
+-- `startKey m`     m by start, as the end question reads it
+-- `endKey m`       m by end, as the start question reads it
+-- `startMark x`    the mark that is x by start
 abbrev pub startKey : Mark → Key
 startKey m = record { motif = m .motif; known = m .start; wanted = m .end }
 
