@@ -80,9 +80,9 @@ pub held-more : (n n' : ℕ) → n ≤ n' → (ms : List Mark) → allHeld n ms 
 held-more n n' le ms h =
     every-weaker (held n) (held n')
     (λ m k.
-        let places = leb (m .start) 20000 && leb (m .end) 20000 in
-        let p = and-parts (ltb (m .motif) n) places k in
-        and-from (ltb (m .motif) n') places (below-more n n' (m .motif) le (p .0)) (p .1))
+    let places = leb (m .start) 20000 && leb (m .end) 20000 in
+    let p = and-parts (ltb (m .motif) n) places k in
+    and-from (ltb (m .motif) n') places (below-more n n' (m .motif) le (p .0)) (p .1))
     ms h
 
 -- a list that was perhaps added to is no shorter

@@ -13,13 +13,12 @@ ghost use Rattle.refusal.specs.Checks.{refusedBy};
 ghost use Rattle.std.specs.Results.{isOk};
 ghost use Rattle.std.specs.shelf.Text.{sameBytes};
 ghost use Rattle.std.specs.Vec.{made, refused as left};
-use refusal::Refusal;
-use std::alloc::AllocError;
-use std::alloc::Global;
-
 use crate::values::book::Book;
 use entry::Motif;
 use entry::Rule;
+use refusal::Refusal;
+use std::alloc::AllocError;
+use std::alloc::Global;
 
 // What has a name among others of its kind.
 trait Named {

@@ -9,15 +9,14 @@ ghost use Rattle.refusal.specs.Checks.{refusedBy};
 ghost use Rattle.std.specs.Of.Vec.{vec-cap, vec-items, vec-len};
 ghost use Rattle.std.specs.Results.{isOk};
 ghost use Rattle.std.specs.Vec.{made, refused as left};
-use refusal::Refusal;
-use std::alloc::AllocError;
-use std::alloc::Global;
-
 use crate::values::book::Book;
 use crate::values::chapter::Chapter;
 use entry::Mark;
 use entry::Motif;
 use entry::Rule;
+use refusal::Refusal;
+use std::alloc::AllocError;
+use std::alloc::Global;
 
 // Appends codes for which there is room already, so that it can't want memory.
 fn append(row: &mut Vec<u16>, codes: &[u16])

@@ -51,7 +51,9 @@ fn eight_rules(rt: LibcRuntime) -> Result<(), Fail> {
     check_eq(number(book.add_rule(rule(b'a', 0)?)), 10).note("no motif yet")?;
     book.add_motif(motif(b'a')?)?;
     for letter in b'a'..b'i' {
-        check_eq(number(book.add_rule(rule(letter, 0)?)), 0).note("a rule may be called like a motif")?;
+        check_eq(number(book.add_rule(rule(letter, 0)?)), 0).note(
+            "a rule may be called like a motif",
+        )?;
     }
     check_eq(number(book.add_rule(rule(b'a', 1)?)), 9).note("9 before 10")?;
     check_eq(number(book.add_rule(rule(b'i', 1)?)), 10).note("10 before 11")?;
@@ -79,7 +81,9 @@ fn rows(rt: LibcRuntime) -> Result<(), Fail> {
 fn marks(rt: LibcRuntime) -> Result<(), Fail> {
     let mut chapter = Chapter::new(rt.alloc())?;
     chapter.add_motif(motif(b'a')?)?;
-    check_eq(number(chapter.add_mark(mark(0, 20_000, 20_000))), 0).note("the last place, on no boxes")?;
+    check_eq(number(chapter.add_mark(mark(0, 20_000, 20_000))), 0).note(
+        "the last place, on no boxes",
+    )?;
     check_eq(number(chapter.add_mark(mark(0, 9, 2))), 0).note("a start behind its end")?;
     check_eq(number(chapter.add_mark(mark(1, 20_001, 0))), 5).note("5 before 10")?;
     check_eq(number(chapter.add_mark(mark(0, 0, 20_001))), 5).note("an end too far")?;

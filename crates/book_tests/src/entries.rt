@@ -63,8 +63,14 @@ fn fitting(item: &Item, cases: &[(&str, u16, bool)]) -> Result<(), Fail> {
 
 #[test]
 fn items() -> Result<(), Fail> {
-    fitting(&Item::Code(45), &[("its code", 45, true), ("another code", 46, false)])?;
-    fitting(&Item::Any, &[("any box", 0, true), ("any box at all", 65535, true)])?;
+    fitting(
+        &Item::Code(45),
+        &[("its code", 45, true), ("another code", 46, false)],
+    )?;
+    fitting(
+        &Item::Any,
+        &[("any box", 0, true), ("any box at all", 65535, true)],
+    )?;
     fitting(
         &Item::Class(Class::new(&[45, 8208])?),
         &[

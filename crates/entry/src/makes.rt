@@ -11,14 +11,13 @@ ghost use Rattle.entry.specs.Names.{isLetter};
 ghost use Rattle.entry.specs.Rules.{motifsOf, netFrom, netOf, rangesOf};
 ghost use Rattle.refusal.specs.Checks.{refusedBy};
 ghost use Rattle.std.specs.Vec.{made};
-use refusal::Refusal;
-
 use crate::body::Body;
 use crate::body::Class;
 use crate::body::Item;
 use crate::name::Name;
 use crate::range::Range;
 use crate::rule::Rule;
+use refusal::Refusal;
 
 // Puts the items at the front of the room.
 fn put_front<T: Copy>(room: &mut [T], items: &[T])

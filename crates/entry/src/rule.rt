@@ -1,6 +1,5 @@
 use crate::name::Name;
 use crate::range::Range;
-
 ghost use Prim.Native.Nat.{_≤_};
 
 // 1 to 12 motifs, by their numbers in a book, with a range between neighbours.

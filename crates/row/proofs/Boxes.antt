@@ -29,17 +29,19 @@ boxes-fit (i ∷ is) (y ∷ ys) l all =
     and-from (fits i y) (allFit is ys) (all zero i (omega arith)) (boxes-fit is ys (omega arith) (λ j d h. all (suc j) d (omega arith)))
 
 stands-decides : (is : List Item) (xs : List ℕ) (a b : ℕ) → Decides (stands is xs a b) (StandsAt is xs a b)
-stands-decides is xs a b =
-    ((λ h.
-        let p = standing is xs a b h in
-        record {
-          some = p .some;
-          ends = p .ends;
-          inside = p .inside;
-          boxes = λ j d l. ap (fits (getD is j d)) (sym (getD-drop a xs j 0)) ∙ fit-boxes is (drop a xs) (p .fitted) j d l;
-        }), λ s.
-        let long : length is ≤ length (drop a xs) = omega (arith, length-drop a xs, s .ends, s .inside, s .some) in
-        stands-from is xs a b (s .some) (s .ends) (boxes-fit is (drop a xs) long (λ j d l. ap (fits (getD is j d)) (getD-drop a xs j 0) ∙ s .boxes j d l)))
+stands-decides is xs a b = (
+  (λ h.
+      let p = standing is xs a b h in
+      record {
+        some = p .some;
+        ends = p .ends;
+        inside = p .inside;
+        boxes = λ j d l. ap (fits (getD is j d)) (sym (getD-drop a xs j 0)) ∙ fit-boxes is (drop a xs) (p .fitted) j d l;
+      }),
+  λ s.
+      let long : length is ≤ length (drop a xs) = omega (arith, length-drop a xs, s .ends, s .inside, s .some) in
+      stands-from is xs a b (s .some) (s .ends) (boxes-fit is (drop a xs) long (λ j d l. ap (fits (getD is j d)) (getD-drop a xs j 0) ∙ s .boxes j d l)),
+)
 
 pub row-decides : (xs : List ℕ) (book : Book) (k a b : ℕ) → Decides (rowMeaning xs book .has k a b) (StandsAt (itemsAt (motifsIn book) k) xs a b)
 row-decides xs book k a b = stands-decides (itemsAt (motifsIn book) k) xs a b

@@ -1,7 +1,7 @@
 // Both and window, over each other and over themselves.
-use crate::asked::answers;
 use crate::asked::Question::End;
 use crate::asked::Question::Start;
+use crate::asked::answers;
 use crate::marks::at;
 use crate::marks::opened;
 use crate::rows::FAR;
@@ -20,7 +20,11 @@ use std::alloc::Global;
 use std::test::*;
 
 fn long(heap: Global) -> Result<MarkSource, Fail> {
-    opened(heap, 12, &[at(0, 2, 4), at(0, 2, 9), at(0, 6, 12), at(1, 8, 8)])
+    opened(
+        heap,
+        12,
+        &[at(0, 2, 4), at(0, 2, 9), at(0, 6, 12), at(1, 8, 8)],
+    )
 }
 
 fn short(heap: Global) -> Result<MarkSource, Fail> {
@@ -47,7 +51,13 @@ fn both(rt: LibcRuntime) -> Result<(), Fail> {
     )?;
     let more = Both::new(both, long(heap)?);
     check_eq(more.prices(0), (3, 6)).note("both over both")?;
-    answers(&more, &[("one stretch, given twice", End(0, 2, 0), Some(4)), ("the same", Start(0, 6, 0), Some(2))])
+    answers(
+        &more,
+        &[
+            ("one stretch, given twice", End(0, 2, 0), Some(4)),
+            ("the same", Start(0, 6, 0), Some(2)),
+        ],
+    )
 }
 
 #[test]
@@ -59,7 +69,11 @@ fn windows(rt: LibcRuntime) -> Result<(), Fail> {
     answers(
         &window,
         &[
-            ("counted from the window's first place", End(0, 0, 0), Some(2)),
+            (
+                "counted from the window's first place",
+                End(0, 0, 0),
+                Some(2),
+            ),
             ("up to its last place", End(0, 0, 3), Some(7)),
             ("what ends behind it", End(0, 4, 0), None),
             ("an empty stretch inside", End(1, 6, 0), Some(6)),
@@ -72,7 +86,14 @@ fn windows(rt: LibcRuntime) -> Result<(), Fail> {
     check_eq(Window::new(long(heap)?, 9, 2).length(), 0).note("u above v")?;
     check_eq(Window::new(long(heap)?, 99, 2).length(), 0).note("u above the length")?;
     check_eq(Window::new(long(heap)?, 4, FAR).length(), 8).note("v above the length")?;
-    answers(&Window::new(long(heap)?, 8, 3), &[("an empty stretch in a window of none", End(1, 0, 0), Some(0))])
+    answers(
+        &Window::new(long(heap)?, 8, 3),
+        &[(
+            "an empty stretch in a window of none",
+            End(1, 0, 0),
+            Some(0),
+        )],
+    )
 }
 
 #[test]

@@ -1,7 +1,7 @@
 // The row source, and the test that opens it.
-use crate::asked::answers;
 use crate::asked::Question::End;
 use crate::asked::Question::Start;
+use crate::asked::answers;
 use book::Book;
 use entry::Body;
 use entry::Class;
@@ -84,9 +84,20 @@ fn lengths(rt: LibcRuntime) -> Result<(), Fail> {
     let book = four_motifs(heap)?;
     let codes = vec![in heap; 45; 20_001]?;
     check(codes.len() == 20_001)?;
-    check_eq(RowTest::new(&codes.as_slice()[0..0], &book)?.open().length(), 0).note("no box")?;
+    check_eq(
+        RowTest::new(&codes.as_slice()[0..0], &book)?
+            .open()
+            .length(),
+        0,
+    ).note("no box")?;
     let full = RowTest::new(&codes.as_slice()[0..20_000], &book)?.open();
-    answers(&full, &[("the last box", End(0, 19_999, 0), Some(20_000)), ("the last place", End(0, 20_000, 0), None)])?;
+    answers(
+        &full,
+        &[
+            ("the last box", End(0, 19_999, 0), Some(20_000)),
+            ("the last place", End(0, 20_000, 0), None),
+        ],
+    )?;
     match RowTest::new(codes.as_slice(), &book) {
         Ok(_) => Err(Fail::new("20,001 boxes passed")),
         Err(refusal) => check_eq(refusal.number(), 12),

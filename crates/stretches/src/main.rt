@@ -88,7 +88,12 @@ fn marks_of(heap: Global, chapter: &Chapter) -> Result<MarkSource, AnyError> {
 }
 
 // Appends the stretches of the motif by start and then end, each found by the end question.
-fn write_stretches<S: PricedSource>(heap: Global, source: &S, motif: usize, line: &mut String) -> Result<(), AllocError> {
+fn write_stretches<S: PricedSource>(
+    heap: Global,
+    source: &S,
+    motif: usize,
+    line: &mut String,
+) -> Result<(), AllocError> {
     for start in 0..source.length() + 1 {
         let mut least = start;
         while let Some(end) = source.next_end(motif, start, least) {
@@ -100,7 +105,13 @@ fn write_stretches<S: PricedSource>(heap: Global, source: &S, motif: usize, line
 }
 
 // One line: the motif, the source, its length, the two prices, and the stretches.
-fn show<S: PricedSource>(rt: &LibcRuntime, name: &str, by: &str, source: &S, motif: usize) -> io::Result<()> {
+fn show<S: PricedSource>(
+    rt: &LibcRuntime,
+    name: &str,
+    by: &str,
+    source: &S,
+    motif: usize,
+) -> io::Result<()> {
     let heap = rt.alloc();
     let length = source.length();
     let (look, opening) = source.prices(motif);

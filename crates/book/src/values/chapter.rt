@@ -1,6 +1,5 @@
 use super::book::Book;
 use entry::Mark;
-
 ghost use mathlib.Core.Bool.{true};
 ghost use mathlib.Core.Path.{_≡_};
 ghost use Prim.Native.Nat.{_≤_};
