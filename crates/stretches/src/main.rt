@@ -1,17 +1,15 @@
-// Lists the stretches of each motif of one chapter, as its row, its marks, both and a window on both have them.
-ghost use Prim.Native.Nat.{_≤_};
+// Reads a job and lists the stretches of each of its motifs, as its row, its marks, both and a window on both have them.
 use book::Chapter;
-use entry::Body;
-use entry::Item;
-use entry::Mark;
-use entry::Motif;
-use entry::Name;
+use job::JobFault;
+use job::read_job;
 use layer::Both;
 use layer::BothPriced;
 use layer::BothSource;
 use layer::Window;
 use layer::WindowPriced;
 use layer::WindowSource;
+use line::Layer;
+use mark::MarkFault;
 use mark::MarkList;
 use mark::MarkSource;
 use mark::MarkSourcePriced;
@@ -29,49 +27,82 @@ use std::alloc::AllocError;
 use std::alloc::Global;
 use std::error::AnyError;
 use std::io;
+use std::io::Read;
 
-const ROW: [u16; 12] = [97, 45, 98, 99, 100, 45, 101, 45, 102, 45, 103, 104];
+// A job has at most this many bytes; one more tells that it is too long.
+const LONGEST_JOB: usize = 60_000;
 
-// The names of the motifs, in the order of their numbers.
-const NAMES: [&str; 2] = ["hy", "le"];
-
-const LE: usize = 1;
-
-// Where the marks of le stand: empty stretches.
-const LE_MARKS: [usize; 4] = [2, 6, 10, 12];
-
-// The motif hy is the one box 45; le has no body, only marks.
-fn add_motifs(chapter: &mut Chapter) -> Result<(), Refusal> {
-    let hyphen = Body::new(&[Item::Code(45)])?;
-    chapter.add_motif(Motif {
-        name: Name::new(b"hy")?,
-        weight: 300,
-        body: Some(hyphen),
-    })?;
-    chapter.add_motif(Motif {
-        name: Name::new(b"le")?,
-        weight: 1500,
-        body: None,
-    })
+// Appends the next piece of the input, and answers how many bytes it has: 0 at the end.
+fn read_piece<R: Read>(stream: &mut R, job: &mut Vec<u8>) -> io::Result<usize> {
+    let mut piece = [0; 4096];
+    let count = stream.read(&mut piece)?;
+    job.extend_from_slice(&piece[0..count])?;
+    Ok(count)
 }
 
-fn add_marks(chapter: &mut Chapter) -> Result<(), Refusal> {
-    for place in LE_MARKS {
-        chapter.add_mark(Mark {
-            motif: LE,
-            start: place,
-            end: place,
-        })?;
+// The job on standard input, or as much of it as tells that it is too long. Each turn reads a byte or more.
+fn input(rt: &LibcRuntime) -> io::Result<Vec<u8>> {
+    let mut job = Vec::new(rt.alloc());
+    let mut stream = rt.stdin();
+    for _ in 0..LONGEST_JOB + 1 {
+        let count = read_piece(&mut stream, &mut job)?;
+        if count == 0 || job.len() > LONGEST_JOB {
+            break;
+        }
     }
-    Ok(())
+    Ok(job)
 }
 
-fn ladder_page(heap: Global) -> Result<Chapter, AnyError> {
-    let mut chapter = Chapter::new(heap)?;
-    add_motifs(&mut chapter)?;
-    chapter.add_boxes(&ROW)?;
-    add_marks(&mut chapter)?;
-    Ok(chapter)
+fn layer_name(layer: Layer) -> &'static str {
+    match layer {
+        Layer::InWord => "word",
+        Layer::InLine => "line",
+        Layer::InText => "text",
+    }
+}
+
+// The line that a faulty text prints.
+fn print_job_fault(rt: &LibcRuntime, refused: JobFault) -> io::Result<()> {
+    let number = refused.fault.refusal().number();
+    let layer = layer_name(refused.fault.layer());
+    let line = refused.line;
+    let place = refused.fault.place();
+    println!(rt, "x,{number},{layer},{line},{place}")
+}
+
+// The line that faulty marks print.
+fn print_mark_fault(rt: &LibcRuntime, fault: MarkFault) -> io::Result<()> {
+    let number = fault.refusal().number();
+    let entry = match fault {
+        MarkFault::TooLong => 0,
+        MarkFault::Entry(entry) => entry,
+    };
+    println!(rt, "x,{number},marks,{entry},0")
+}
+
+// Why a list breaks off: marks that can't be opened, which is said on standard output, or a failure.
+#[derive(Drop)]
+enum Stop {
+    Marks(MarkFault),
+    Failed(AnyError),
+}
+
+impl From<AllocError> for Stop as StopFromAlloc {
+    fn from(error: AllocError) -> Stop {
+        Stop::Failed(error.into())
+    }
+}
+
+impl From<Refusal> for Stop as StopFromRefusal {
+    fn from(refusal: Refusal) -> Stop {
+        Stop::Failed(refusal.into())
+    }
+}
+
+impl From<io::Error> for Stop as StopFromIo {
+    fn from(error: io::Error) -> Stop {
+        Stop::Failed(error.into())
+    }
 }
 
 fn row_of(chapter: &Chapter) -> Result<RowSource<'_>, Refusal> {
@@ -79,12 +110,16 @@ fn row_of(chapter: &Chapter) -> Result<RowSource<'_>, Refusal> {
     Ok(passed.open())
 }
 
-fn marks_of(heap: Global, chapter: &Chapter) -> Result<MarkSource, AnyError> {
+fn marks_of(heap: Global, chapter: &Chapter) -> Result<MarkSource, Stop> {
     let list = MarkList::copied(heap, chapter.marks())?;
     match list.test(chapter.row().len()) {
         Ok(passed) => Ok(passed.open()),
-        Err(refused) => Err(refused.fault.refusal().into()),
+        Err(refused) => Err(Stop::Marks(refused.fault)),
     }
+}
+
+fn both_of(heap: Global, chapter: &Chapter) -> Result<Both<RowSource<'_>, MarkSource>, Stop> {
+    Ok(Both::new(row_of(chapter)?, marks_of(heap, chapter)?))
 }
 
 // Appends the stretches of the motif by start and then end, each found by the end question.
@@ -105,7 +140,7 @@ fn write_stretches<S: PricedSource>(
 }
 
 // One line: the motif, the source, its length, the two prices, and the stretches.
-fn show<S: PricedSource>(
+fn print_line<S: PricedSource>(
     rt: &LibcRuntime,
     name: &str,
     by: &str,
@@ -120,24 +155,34 @@ fn show<S: PricedSource>(
     rt.println(line)
 }
 
-fn both_of(heap: Global, chapter: &Chapter) -> Result<Both<RowSource<'_>, MarkSource>, AnyError> {
-    Ok(Both::new(row_of(chapter)?, marks_of(heap, chapter)?))
+fn list(rt: &LibcRuntime, chapter: &Chapter) -> Result<(), Stop> {
+    let heap = rt.alloc();
+    let row = row_of(chapter)?;
+    let marks = marks_of(heap, chapter)?;
+    let both = both_of(heap, chapter)?;
+    let window = Window::new(both_of(heap, chapter)?, 6, 10);
+    for (number, motif) in chapter.book.motifs().iter().enumerate() {
+        let name = String::from_utf8_lossy(heap, motif.name.letters())?;
+        print_line(rt, name.as_str(), "row", &row, number)?;
+        print_line(rt, name.as_str(), "marks", &marks, number)?;
+        print_line(rt, name.as_str(), "both", &both, number)?;
+        print_line(rt, name.as_str(), "window", &window, number)?;
+    }
+    Ok(())
 }
 
 fn run(rt: &LibcRuntime) -> Result<(), AnyError> {
-    let heap = rt.alloc();
-    let chapter = ladder_page(heap)?;
-    let row = row_of(&chapter)?;
-    let marks = marks_of(heap, &chapter)?;
-    let both = both_of(heap, &chapter)?;
-    let window = Window::new(both_of(heap, &chapter)?, 6, 10);
-    for (motif, name) in NAMES.iter().enumerate() {
-        show(rt, name, "row", &row, motif)?;
-        show(rt, name, "marks", &marks, motif)?;
-        show(rt, name, "both", &both, motif)?;
-        show(rt, name, "window", &window, motif)?;
+    let mut chapter = Chapter::new(rt.alloc())?;
+    let text = input(rt)?;
+    if let Err(refused) = read_job(text.as_slice(), &mut chapter) {
+        print_job_fault(rt, refused)?;
+        return Ok(());
     }
-    Ok(())
+    match list(rt, &chapter) {
+        Ok(()) => Ok(()),
+        Err(Stop::Marks(fault)) => Ok(print_mark_fault(rt, fault)?),
+        Err(Stop::Failed(error)) => Err(error),
+    }
 }
 
 fn main(rt: LibcRuntime) -> Result<(), AnyError> {
