@@ -28,9 +28,9 @@ module _ (strip : List ℕ) (n : ℕ) where
   turned-down k over =
       ⊎-elim
       (λ t.
-          let p = and-parts (leb (startOf strip k) (endOf strip k)) (leb (endOf strip k) n && leb (boxes strip (suc k)) 64) t in
-          let q = and-parts (leb (endOf strip k) n) (leb (boxes strip (suc k)) 64) (p .1) in
-          absurd (omega (arith, over (leb-true (startOf strip k) (endOf strip k) (p .0)) (leb-true (endOf strip k) n (q .0)), leb-true (boxes strip (suc k)) 64 (q .1))))
+      let p = and-parts (leb (startOf strip k) (endOf strip k)) (leb (endOf strip k) n && leb (boxes strip (suc k)) 64) t in
+      let q = and-parts (leb (endOf strip k) n) (leb (boxes strip (suc k)) 64) (p .1) in
+      absurd (omega (arith, over (leb-true (startOf strip k) (endOf strip k) (p .0)) (leb-true (endOf strip k) n (q .0)), leb-true (boxes strip (suc k)) 64 (q .1))))
       (λ e. e)
       (cases-bool (passes strip n k))
 

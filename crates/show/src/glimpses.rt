@@ -18,7 +18,12 @@ impl ShowTest {
 }
 
 // What box i reads under one show and, when that has ended, under another; none where the ink has no box i.
-pub fn in_turn(first: ShowTest, second: ShowTest, ink: &mut [u8], i: usize) -> (Option<u8>, Option<u8>)
+pub fn in_turn(
+    first: ShowTest,
+    second: ShowTest,
+    ink: &mut [u8],
+    i: usize,
+) -> (Option<u8>, Option<u8>)
     ensures same { λ _. ⌜ now (ink .exit) ≡ now (ink .entry) ⌝ }
     ensures first { λ r. ⌜ r .0 ≡ readAt (first .strip) (first .m) (now (ink .entry)) i ⌝ }
     ensures second { λ r. ⌜ r .1 ≡ readAt (second .strip) (second .m) (now (ink .entry)) i ⌝ }

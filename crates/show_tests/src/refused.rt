@@ -1,6 +1,6 @@
 // What the test passes, and by which number it refuses.
-use crate::strips::strip_of;
 use crate::strips::Pair;
+use crate::strips::strip_of;
 use show::ShowTest;
 use std::test::*;
 
@@ -30,15 +30,18 @@ fn stretches(rt: LibcRuntime) -> Result<(), Fail> {
         ("the largest numbers", &[(0, FAR)], 1, 20_000, 24),
         ("64 boxes", &[(0, 64)], 1, 64, 0),
         ("65 boxes", &[(0, 65)], 1, 65, 24),
-        ("64 boxes, repeats counted", &[(0, 32), (0, 32)], 2, 32, 0),
-        ("65 boxes, repeats counted", &[(0, 32), (0, 32), (5, 6)], 3, 32, 24),
-        ("a bad stretch behind the first m", &[(0, 32), (9, 5)], 1, 32, 0),
-        ("a bad stretch before a good one", &[(9, 5), (0, 1)], 2, 32, 24),
-        ("the last boxes of 20,000", &[(19_936, 20_000)], 1, 20_000, 0),
+        ("64 with repeats", &[(0, 32), (0, 32)], 2, 32, 0),
+        ("65 with repeats", &[(0, 32), (0, 32), (5, 6)], 3, 32, 24),
+        ("bad, but behind m", &[(0, 32), (9, 5)], 1, 32, 0),
+        ("bad before good", &[(9, 5), (0, 1)], 2, 32, 24),
+        ("the last boxes", &[(19_936, 20_000)], 1, 20_000, 0),
     ];
     for (about, stretches, m, len, wanted) in cases {
         check(len <= inks.len())?;
-        check_eq(number(&strip_of(stretches), m, &inks.as_slice()[0..len]), wanted).note(about)?;
+        check_eq(
+            number(&strip_of(stretches), m, &inks.as_slice()[0..len]),
+            wanted,
+        ).note(about)?;
     }
     Ok(())
 }
@@ -46,7 +49,14 @@ fn stretches(rt: LibcRuntime) -> Result<(), Fail> {
 #[test]
 fn strips() -> Result<(), Fail> {
     let strip = [0; 30];
-    let cases = [("none", 0, 1, 23), ("23 numbers", 23, 1, 23), ("23 before 24", 23, 0, 23), ("24 numbers", 24, 0, 24), ("just enough", 24, 12, 0), ("more than 24", 30, 12, 0)];
+    let cases = [
+        ("none", 0, 1, 23),
+        ("23 numbers", 23, 1, 23),
+        ("23 before 24", 23, 0, 23),
+        ("24 numbers", 24, 0, 24),
+        ("just enough", 24, 12, 0),
+        ("more than 24", 30, 12, 0),
+    ];
     for (about, len, m, wanted) in cases {
         check(len <= 30)?;
         check_eq(number(&strip[0..len], m, &[]), wanted).note(about)?;
