@@ -14,7 +14,7 @@ use Rattle.std.proofs.shelf.Lists.{append-assoc, drop-take, length-drop, length
 use Rattle.std.proofs.shelf.Tests.{cases-eq}
 use Rattle.std.proofs.shelf.Ways.{tells}
 use Rattle.show.proofs.Paint.{back, painted-box}
-use Rattle.show.specs.Ends.{firstIn, keptIn, lastIn, undone}
+use Rattle.show.specs.Ends.{startIn, keptIn, endIn, undone}
 use Rattle.show.specs.Stretches.{Shown, boxes, covers, endOf, reads, startOf}
 
 take-below : (d s : List ℕ) (at n : ℕ) → at + n ≤ length d → take at (paste d at s n) ≡ take at d
@@ -35,7 +35,7 @@ module _ (strip : List ℕ) where
       ⊎-elim (λ same. omega (arith, ap (boxes strip) same)) (λ apart. let t = boxes-grow m k (omega arith) in omega arith) (cases-eq k (suc m))
 
   -- the bytes of a stretch have room where the bytes of all have
-  pub has-room : (n m k : ℕ) → k < m → keptIn strip n k + (lastIn strip n k - firstIn strip n k) ≤ boxes strip m
+  pub has-room : (n m k : ℕ) → k < m → keptIn strip n k + (endIn strip n k - startIn strip n k) ≤ boxes strip m
   has-room n m k h = let t = kept-le n (suc k) in let g = boxes-grow m (suc k) (omega arith) in omega arith
 
   -- what is put back doesn't depend on saved bytes behind those of the first m stretches
@@ -43,8 +43,8 @@ module _ (strip : List ℕ) where
   agree n zero s t xs h = refl
   agree n (suc m) s t xs h =
       let u = keptIn strip n m in
-      let f = firstIn strip n m in
-      let w = lastIn strip n m - f in
+      let f = startIn strip n m in
+      let w = endIn strip n m - f in
       let here : take w (drop u s) ≡ take w (drop u t) = sym (drop-take u w s) ∙ ap (drop u) h ∙ drop-take u w t in
       let front : take u s ≡ take u t = sym (take-take u (u + w) s (omega arith)) ∙ ap (take u) h ∙ take-take u (u + w) t (omega arith) in
       ap (λ z. undone strip n s m (take f xs ++ z ++ drop (f + w) xs)) here ∙ agree n m s t (paste xs f (drop u t) w) front
@@ -57,7 +57,7 @@ pub record Painting (strip : List ℕ) (k : ℕ) (xs ys saved : List ℕ) (at : 
   pub long : length ys ≡ length xs
   pub room : length saved ≡ 64
 
-module _ (strip xs ys saved ys′ saved′ : List ℕ) (k f l at v : ℕ) (so : Painting strip k xs ys saved at) (ef : f ≡ firstIn strip (length xs) k) (el : l ≡ lastIn strip (length xs) k) where
+module _ (strip xs ys saved ys′ saved′ : List ℕ) (k f l at v : ℕ) (so : Painting strip k xs ys saved at) (ef : f ≡ startIn strip (length xs) k) (el : l ≡ endIn strip (length xs) k) where
   pub painting-on : v ≡ k + 1 → at + (l - f) ≤ 64 → ys′ ≡ paste ys f (replicate (l - f) v) (l - f) → saved′ ≡ paste saved at (drop f ys) (l - f) → Painting strip (k + 1) xs ys′ saved′ (at + (l - f))
   painting-on ev fits ey es =
       let n = length xs in
@@ -71,11 +71,11 @@ module _ (strip xs ys saved ys′ saved′ : List ℕ) (k f l at v : ℕ) (so : 
         counted = let c = so .counted in cc;
         shown = λ i h.
             let box : getD ys′ i 0 ≡ cond (leb f i && ltb i l) v (getD ys i 0) = ap (λ z. getD z i 0) ey ∙ painted-box ys f l v i p q (omega (arith, so .long)) in
-            let covered : (leb f i && ltb i l) ≡ covers strip k i = ap (λ x. leb x i && ltb i l) ef ∙ ap (λ x. leb (firstIn strip n k) i && ltb i x) el ∙ cut (startOf strip k) (endOf strip k) n i h in
+            let covered : (leb f i && ltb i l) ≡ covers strip k i = ap (λ x. leb x i && ltb i l) ef ∙ ap (λ x. leb (startIn strip n k) i && ltb i x) el ∙ cut (startOf strip k) (endOf strip k) n i h in
             box ∙ ap (λ t. cond t v (getD ys i 0)) covered ∙ ap (λ x. cond (covers strip k i) x (getD ys i 0)) ev ∙ ap (cond (covers strip k i) (k + 1)) (so .shown i h) ∙ sym (ap (λ j. reads strip j i (getD xs i 0)) next);
         undoes =
             let counted = so .counted in
-            let here : paste ys′ (firstIn strip n k) (drop (keptIn strip n k) saved′) (lastIn strip n k - firstIn strip n k) ≡ ys = cc in
+            let here : paste ys′ (startIn strip n k) (drop (keptIn strip n k) saved′) (endIn strip n k - startIn strip n k) ≡ ys = cc in
             let front : take (keptIn strip n k) saved′ ≡ take (keptIn strip n k) saved = cc in
             ap (λ j. undone strip n saved′ j ys′) next ∙ ap (undone strip n saved′ k) here ∙ agree strip n k saved′ saved ys front ∙ so .undoes;
         long = ap length ey ∙ length-paste ys f (replicate (l - f) v) (l - f) (omega arith) (omega (arith, length-replicate (l - f) v)) ∙ so .long;
@@ -83,10 +83,10 @@ module _ (strip xs ys saved ys′ saved′ : List ℕ) (k f l at v : ℕ) (so : 
       }
 
 -- putting the bytes of the last stretch back leaves the rest to those before it
-pub back-on : (strip saved ys ys′ zs : List ℕ) (n k f l at : ℕ) → 0 < k → at ≡ keptIn strip n k → f ≡ firstIn strip n (k - 1) → l ≡ lastIn strip n (k - 1) → ys′ ≡ paste ys f (drop (at - (l - f)) saved) (l - f) → undone strip n saved k ys ≡ zs → (at - (l - f) ≡ keptIn strip n (k - 1)) × (undone strip n saved (k - 1) ys′ ≡ zs)
+pub back-on : (strip saved ys ys′ zs : List ℕ) (n k f l at : ℕ) → 0 < k → at ≡ keptIn strip n k → f ≡ startIn strip n (k - 1) → l ≡ endIn strip n (k - 1) → ys′ ≡ paste ys f (drop (at - (l - f)) saved) (l - f) → undone strip n saved k ys ≡ zs → (at - (l - f) ≡ keptIn strip n (k - 1)) × (undone strip n saved (k - 1) ys′ ≡ zs)
 back-on strip saved ys ys′ zs n k f l at some counted ef el ey so =
     let j = k - 1 in
     let last : k ≡ suc j = omega arith in
     let left : at - (l - f) ≡ keptIn strip n j = omega (arith, ap (keptIn strip n) last) in
-    let here : ys′ ≡ paste ys (firstIn strip n j) (drop (keptIn strip n j) saved) (lastIn strip n j - firstIn strip n j) = cc in
+    let here : ys′ ≡ paste ys (startIn strip n j) (drop (keptIn strip n j) saved) (endIn strip n j - startIn strip n j) = cc in
     (left, ap (undone strip n saved j) here ∙ sym (ap (λ i. undone strip n saved i ys) last) ∙ so)

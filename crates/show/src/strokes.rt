@@ -2,41 +2,41 @@
 ghost use lib.ListN.{drop, length, replicate};
 ghost use mathlib.Core.Path.{_≡_};
 ghost use Prim.Native.Nat.{_+_, _-_, _<_, _≤_};
-ghost use Rattle.show.specs.Ends.{firstIn, keptIn, lastIn, undone};
+ghost use Rattle.show.specs.Ends.{startIn, keptIn, endIn, undone};
 ghost use Rattle.show.specs.Stretches.{Shown};
 ghost use Rattle.std.specs.shelf.Lists.{paste};
 use crate::tested::ShowTest;
 
-// Saves the bytes of the boxes from `first` to before `last`, from place `at` on, and paints the boxes.
-fn paint(ink: &mut [u8], saved: &mut [u8], first: usize, last: usize, at: usize, number: u8)
-    requires part { ⌜ first ≤ last ⌝ ∗ ⌜ last ≤ length (now ink) ⌝ }
-    requires room { ⌜ at + (last - first) ≤ length (now saved) ⌝ }
-    ensures painted { λ _. ⌜ now (ink .exit) ≡ paste (now (ink .entry)) first (replicate (last - first) number) (last - first) ⌝ }
-    ensures kept { λ _. ⌜ now (saved .exit) ≡ paste (now (saved .entry)) at (drop first (now (ink .entry))) (last - first) ⌝ }
+// Saves the bytes of the boxes from `start` to before `end`, from place `at` on, and paints the boxes.
+fn paint(ink: &mut [u8], saved: &mut [u8], start: usize, end: usize, at: usize, number: u8)
+    requires part { ⌜ start ≤ end ⌝ ∗ ⌜ end ≤ length (now ink) ⌝ }
+    requires room { ⌜ at + (end - start) ≤ length (now saved) ⌝ }
+    ensures painted { λ _. ⌜ now (ink .exit) ≡ paste (now (ink .entry)) start (replicate (end - start) number) (end - start) ⌝ }
+    ensures kept { λ _. ⌜ now (saved .exit) ≡ paste (now (saved .entry)) at (drop start (now (ink .entry))) (end - start) ⌝ }
 {
-    let boxes = &mut ink[first..last];
-    saved[at..at + (last - first)].copy_from_slice(boxes);
+    let boxes = &mut ink[start..end];
+    saved[at..at + (end - start)].copy_from_slice(boxes);
     boxes.fill(number);
 }
 
-// Puts the bytes that were saved from place `at` on back into the boxes from `first` to before `last`.
-fn put_back(ink: &mut [u8], saved: &[u8], first: usize, last: usize, at: usize)
-    requires part { ⌜ first ≤ last ⌝ ∗ ⌜ last ≤ length (now ink) ⌝ }
-    requires room { ⌜ at + (last - first) ≤ length (now saved) ⌝ }
-    ensures { λ _. ⌜ now (ink .exit) ≡ paste (now (ink .entry)) first (drop at (now (saved .entry))) (last - first) ⌝ }
+// Puts the bytes that were saved from place `at` on back into the boxes from `start` to before `end`.
+fn put_back(ink: &mut [u8], saved: &[u8], start: usize, end: usize, at: usize)
+    requires part { ⌜ start ≤ end ⌝ ∗ ⌜ end ≤ length (now ink) ⌝ }
+    requires room { ⌜ at + (end - start) ≤ length (now saved) ⌝ }
+    ensures { λ _. ⌜ now (ink .exit) ≡ paste (now (ink .entry)) start (drop at (now (saved .entry))) (end - start) ⌝ }
 {
-    ink[first..last].copy_from_slice(&saved[at..at + (last - first)]);
+    ink[start..end].copy_from_slice(&saved[at..at + (end - start)]);
 }
 
 impl ShowTest {
-    // The boxes of stretch k that an ink of this length has: from the first to before the last.
+    // The boxes of stretch k that an ink of this length has: from its start to before its end.
     fn part(&self, k: usize, ink_len: usize) -> (usize, usize)
         requires { ⌜ k < now self .m ⌝ }
-        ensures first { λ r. ⌜ r .0 ≡ firstIn (now (self .entry) .strip) «ink_len» k ⌝ }
-        ensures last { λ r. ⌜ r .1 ≡ lastIn (now (self .entry) .strip) «ink_len» k ⌝ }
+        ensures start { λ r. ⌜ r .0 ≡ startIn (now (self .entry) .strip) «ink_len» k ⌝ }
+        ensures end { λ r. ⌜ r .1 ≡ endIn (now (self .entry) .strip) «ink_len» k ⌝ }
     {
-        let last = self.strip[2 * k + 1].min(ink_len);
-        (self.strip[2 * k].min(last), last)
+        let end = self.strip[2 * k + 1].min(ink_len);
+        (self.strip[2 * k].min(end), end)
     }
 
     // How many bytes the show saves of an ink of this length.
@@ -45,8 +45,8 @@ impl ShowTest {
     {
         let mut room = 0;
         for k in 0..self.m {
-            let (first, last) = self.part(k, ink_len);
-            room += last - first;
+            let (start, end) = self.part(k, ink_len);
+            room += end - start;
         }
         room
     }
@@ -61,9 +61,9 @@ impl ShowTest {
         let ink_len = ink.len();
         let mut at = 0;
         for k in 0..self.m {
-            let (first, last) = self.part(k, ink_len);
-            paint(ink, &mut saved, first, last, at, (k + 1) as u8);
-            at += last - first;
+            let (start, end) = self.part(k, ink_len);
+            paint(ink, &mut saved, start, end, at, (k + 1) as u8);
+            at += end - start;
         }
         saved
     }
@@ -76,9 +76,9 @@ impl ShowTest {
         let ink_len = ink.len();
         let mut at = self.room(ink_len);
         for k in (0..self.m).rev() {
-            let (first, last) = self.part(k, ink_len);
-            at -= last - first;
-            put_back(ink, saved, first, last, at);
+            let (start, end) = self.part(k, ink_len);
+            at -= end - start;
+            put_back(ink, saved, start, end, at);
         }
     }
 }

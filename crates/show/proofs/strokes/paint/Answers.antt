@@ -9,8 +9,8 @@ use Rattle.show.proofs.strokes.paint.Needs as need
 
 pub returns : need.returns
 returns c =
-    let f = c .args .first in
-    let w = c .args .last - f in
+    let f = c .args .start in
+    let w = c .args .end - f in
     let xs = c .args .ink .now in
     record {
       painted = put-front f w w xs _ (replicate w (c .args .number)) refl (filled xs _ f w (c .args .number) (omega arith) (c .fill .ensures .after (λ y e. e))) (omega (arith, length-replicate w (c .args .number)));

@@ -9,5 +9,5 @@ use Rattle.show.proofs.strokes.put_back.Needs as need
 
 pub returns : need.returns
 returns c =
-    let w = c .args .last - c .args .first in
-    put-front (c .args .first) w w (c .args .ink .now) _ (drop (c .args .at) (c .args .saved .now)) refl (search needs) (omega (arith, length-drop (c .args .at) (c .args .saved .now)))
+    let w = c .args .end - c .args .start in
+    put-front (c .args .start) w w (c .args .ink .now) _ (drop (c .args .at) (c .args .saved .now)) refl (search needs) (omega (arith, length-drop (c .args .at) (c .args .saved .now)))

@@ -5,10 +5,10 @@ use Prim.Native.Nat.{suc, _-_, _≤_}
 use Rattle.show.specs.Ends.{keptIn}
 use Rattle.show.proofs.Undo.{back-on, has-room}
 use Rattle.show.proofs.tested.ShowTest.put_all_back.Needs as need
-use Rattle.show.proofs.tested.ShowTest.put_all_back.Needs.{After-part-first}
+use Rattle.show.proofs.tested.ShowTest.put_all_back.Needs.{After-part-start}
 
 -- the bytes of this turn are the last of those that are left, and those are among the saved ones
-left : (c : After-part-first) → (c .part-first .result .1 - c .part-first .result .0 ≤ c .loop-k .at) × (c .loop-k .at ≤ 64)
+left : (c : After-part-start) → (c .part-start .result .1 - c .part-start .result .0 ≤ c .loop-k .at) × (c .loop-k .at ≤ 64)
 left c =
     let passed = c .args .self .now in
     let n = length (c .args .ink .now) in
@@ -22,9 +22,9 @@ sub-at-in-loop-k c = left c .0
 
 pub put-back-requires : need.put-back-requires
 put-back-requires c κs =
-    let l = left (need.at·put-back-requires c .After-part-first) in
+    let l = left (need.at·put-back-requires c .After-part-start) in
     record { part = (omega arith, omega (arith, c .loop-k .kept .ink)); room = omega (arith, l .0, l .1) }
 
 pub loop-k-again : need.loop-k-again
 loop-k-again c =
-    back-on (c .args .self .now .strip) (c .args .saved .now) (c .loop-k .ink) (c .put-back .last .ink) _ (length (c .args .ink .now)) (c .loop-k .k) _ _ (c .loop-k .at) (c .loop-k-test .taken) (c .loop-k .inv .0) (c .part-first .ensures .first) (c .part-first .ensures .last) (c .put-back .ensures) (c .loop-k .inv .1)
+    back-on (c .args .self .now .strip) (c .args .saved .now) (c .loop-k .ink) (c .put-back .last .ink) _ (length (c .args .ink .now)) (c .loop-k .k) _ _ (c .loop-k .at) (c .loop-k-test .taken) (c .loop-k .inv .0) (c .part-start .ensures .start) (c .part-start .ensures .end) (c .put-back .ensures) (c .loop-k .inv .1)
