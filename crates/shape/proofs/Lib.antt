@@ -1,0 +1,5 @@
+pub mod Same
+pub mod Derive
+pub mod Table
+pub mod Left
+pub mod Going

@@ -1,0 +1,5 @@
+pub mod Kinds
+pub mod Shape
+pub mod Grammar
+pub mod Follow
+pub mod States
