@@ -3,7 +3,7 @@ use mathlib.Core.Bool.{Bool, true, false, cond, _&&_}
 use mathlib.Core.List.{List, [], _∷_}
 use Prim.Native.Nat.{ℕ, _+_, _-_, _*_}
 use lib.Dec.{eqb, leb}
-use lib.IntN.{ℤ, pos, negsuc, negℤ}
+use lib.IntN.{ℤ, pos, negsuc, negℤ, natAbs}
 use lib.ListN.{length}
 use lib.Signed.{leZ}
 use Rattle.std.specs.Options.{isSome}
@@ -63,3 +63,16 @@ numberOf m w = kept (lowest m) (highest m) (written w)
 
 abbrev pub isNumber : Limits → List ℕ → Bool
 isNumber m w = isSome (numberOf m w)
+
+-- `counted o`      a number as a count, 0 where there is none
+abbrev pub counted : Option ℤ → ℕ
+counted None = 0
+counted (Some v) = natAbs v
+
+-- `codeOf w`       the code that a word is; 0 where it is none, which no line keeps that is taken
+abbrev pub codeOf : List ℕ → ℕ
+codeOf w = counted (numberOf Code w)
+
+-- `placeOf w`      likewise for a start or an end
+abbrev pub placeOf : List ℕ → ℕ
+placeOf w = counted (numberOf Place w)

@@ -12,4 +12,6 @@ pub use self::checks::read_name;
 pub use self::faults::WordFault;
 pub use self::field::Field;
 pub use self::limits::Limits;
+pub use self::numbers::read_code;
 pub use self::numbers::read_number;
+pub use self::numbers::read_place;

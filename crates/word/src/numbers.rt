@@ -3,7 +3,7 @@ ghost use mathlib.Core.Path.{_≡_};
 ghost use lib.IntN.{negsuc, pos};
 ghost use Rattle.book.specs.Lists.{every};
 ghost use Rattle.shape.specs.Kinds.{isDigit};
-ghost use Rattle.word.specs.Numbers.{highest, kept, lowest, numberOf, plain, plus, written};
+ghost use Rattle.word.specs.Numbers.{codeOf, highest, kept, lowest, numberOf, placeOf, plain, plus, written};
 use crate::limits::Limits;
 
 fn is_digit(byte: u8) -> bool
@@ -83,5 +83,25 @@ pub fn read_number(word: &[u8], limits: Limits) -> Option<i32>
         Some(n)
     } else {
         None
+    }
+}
+
+// The code that a word is, or 0.
+pub fn read_code(word: &[u8]) -> u16
+    ensures { λ r. ⌜ r ≡ codeOf (now (word .entry)) ⌝ }
+{
+    match read_number(word, Limits::Code) {
+        Some(n) => n as u16,
+        None => 0,
+    }
+}
+
+// The start or the end that a word is, or 0.
+pub fn read_place(word: &[u8]) -> usize
+    ensures { λ r. ⌜ r ≡ placeOf (now (word .entry)) ⌝ }
+{
+    match read_number(word, Limits::Place) {
+        Some(n) => n as usize,
+        None => 0,
     }
 }
