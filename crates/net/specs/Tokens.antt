@@ -1,6 +1,6 @@
 -- What a NET says: its names and ranges in their order, each with its place. The parts at the spaces are taken one by one:
 -- two that are `<l` and `r>` make a range, and every other part is a name, whatever its bytes.
-use mathlib.Core.Bool.{Bool, false, cond}
+use mathlib.Core.Bool.{cond}
 use mathlib.Core.List.{List, [], _∷_}
 use Prim.Native.Nat.{ℕ, _+_, _-_}
 use lib.Dec.{eqb, leb}
@@ -12,12 +12,8 @@ use Rattle.std.specs.declared.option.Option.the-variants.{Some, None}
 use Rattle.refusal.specs.Checks.{refuse}
 use Rattle.parts.specs.Parts.{left, parts}
 use Rattle.word.specs.Numbers.{numberOf}
+use Rattle.net.specs.declared.Bounds.{Bounds}
 use Rattle.word.specs.declared.limits.Limits.the-variants.{Shift}
-
--- the numbers of a range, as they are written
-pub record Bounds : Type 0 where
-  pub low : ℤ
-  pub high : ℤ
 
 pub data Tok : Type 0 where
   name : ℕ → List ℕ → Tok
@@ -41,18 +37,6 @@ both (Some l) (Some h) = Some (record { low = l; high = h })
 abbrev pub boundsOf : List ℕ → List ℕ → Option Bounds
 boundsOf p q = both (lowOf p) (highOf q)
 
-abbrev pub isBackward : Option Bounds → Bool
-isBackward None = false
-isBackward (Some g) = ltZ (g .high) (g .low)
-
-abbrev pub forward : Option Bounds → Option Bounds
-forward None = None
-forward (Some g) = cond (ltZ (g .high) (g .low)) None (Some g)
-
--- `rangeOf p q`    the range that two parts make, its low at most its high
-abbrev pub rangeOf : List ℕ → List ℕ → Option Bounds
-rangeOf p q = forward (boundsOf p q)
-
 abbrev pub rangeOr : {A : Type 0} → Option Bounds → (Bounds → A) → A → A
 rangeOr None f x = x
 rangeOr (Some g) f x = f g
@@ -62,7 +46,7 @@ abbrev pub tokens : ℕ → List (List ℕ) → List Tok
 tokens at [] = []
 tokens at (p ∷ []) = name at p ∷ []
 tokens at (p ∷ q ∷ ps) =
-    rangeOr (rangeOf p q) (λ g. range at g ∷ tokens (at + length p + 1 + length q + 1) ps) (name at p ∷ tokens (at + length p + 1) (q ∷ ps))
+    rangeOr (boundsOf p q) (λ g. range at g ∷ tokens (at + length p + 1 + length q + 1) ps) (name at p ∷ tokens (at + length p + 1) (q ∷ ps))
 
 -- `tokensFrom w i`   the tokens of the field w from its place i on
 abbrev pub tokensFrom : List ℕ → ℕ → List Tok
@@ -71,20 +55,14 @@ tokensFrom w i = tokens i (left 32 w i)
 abbrev pub netTokens : List ℕ → List Tok
 netTokens w = tokens 0 (parts 32 w)
 
--- `backwardFrom at ps`   the place of the first range whose low is above its high
-abbrev pub backwardFrom : ℕ → List (List ℕ) → Option ℕ
-backwardFrom at [] = None
-backwardFrom at (p ∷ []) = None
-backwardFrom at (p ∷ q ∷ ps) = refuse (isBackward (boundsOf p q)) at (backwardFrom (at + length p + 1) (q ∷ ps))
-
-abbrev pub firstBackward : List ℕ → Option ℕ
-firstBackward w = backwardFrom 0 (parts 32 w)
+-- `backward ts`    the place of the first range whose low is above its high
+abbrev pub backward : List Tok → Option ℕ
+backward [] = None
+backward (name at w ∷ ts) = backward ts
+backward (range at g ∷ ts) = refuse (ltZ (g .high) (g .low)) at (backward ts)
 
 -- `namesOver n ts`   the place of the first name too many, n names coming before; a net has at most 12
 abbrev pub namesOver : ℕ → List Tok → Option ℕ
 namesOver n [] = None
 namesOver n (name at w ∷ ts) = refuse (leb 12 n) at (namesOver (n + 1) ts)
 namesOver n (range at g ∷ ts) = namesOver n ts
-
-abbrev pub firstOver : List ℕ → Option ℕ
-firstOver w = namesOver 0 (netTokens w)

@@ -2,19 +2,25 @@
 ghost use lib.ListN.{length};
 ghost use mathlib.Core.Path.{_≡_};
 ghost use Prim.Native.Nat.{_+_, _<_, _≤_};
-ghost use Rattle.net.specs.Readers.{boundsIn, boundsOr, Yields};
-ghost use Rattle.net.specs.Tokens.{Bounds, boundsOf, firstBackward, firstOver, highOf, isBackward, lowOf, rangeOf};
+ghost use Rattle.net.specs.Readers.{Yields};
+ghost use Rattle.net.specs.Tokens.{boundsOf, highOf, lowOf};
 ghost use Rattle.std.specs.Options.{Cases};
 
-use book::Range;
 use parts::part_end;
 use word::Limits;
 use word::read_number;
 
+// The numbers of a range, as they are written.
+#[derive(Clone, Copy)]
+pub struct Bounds {
+    pub low: i32,
+    pub high: i32,
+}
+
 pub enum Token<'a> {
     // The very bytes of the field.
     Name(&'a [u8]),
-    Range(Range),
+    Range(Bounds),
     // The field's end.
     End,
 }
@@ -44,15 +50,12 @@ fn high_of(part: &[u8]) -> Option<i32>
 }
 
 // The range that two parts make.
-fn range_of(first: &[u8], second: &[u8]) -> Option<Range>
-    ensures { λ r. ⌜ boundsOr r ≡ rangeOf (now (first .entry)) (now (second .entry)) ⌝ }
+fn bounds_of(first: &[u8], second: &[u8]) -> Option<Bounds>
+    ensures { λ r. ⌜ r ≡ boundsOf (now (first .entry)) (now (second .entry)) ⌝ }
 {
     let low = low_of(first)?;
     let high = high_of(second)?;
-    match Range::new(low, high) {
-        Ok(range) => Some(range),
-        Err(_) => None,
-    }
+    Some(Bounds { low, high })
 }
 
 impl<'a> NetReader<'a> {
@@ -84,9 +87,9 @@ impl<'a> NetReader<'a> {
         let to = part_end(field, from, b' ');
         if to < field.len() {
             let end = part_end(field, to + 1, b' ');
-            if let Some(range) = range_of(&field[from..to], &field[to + 1..end]) {
+            if let Some(bounds) = bounds_of(&field[from..to], &field[to + 1..end]) {
                 self.at = end + 1;
-                return Token::Range(range);
+                return Token::Range(bounds);
             }
         }
         self.at = to + 1;
