@@ -2,10 +2,11 @@
 ghost use lib.ListN.{length};
 ghost use mathlib.Core.List.{[], _∷_, _++_};
 ghost use mathlib.Core.Path.{_≡_};
-ghost use Prim.Native.Nat.{_+_, _<_};
+ghost use Prim.Native.Nat.{_+_, _<_, _≤_};
 ghost use Rattle.body.specs.Bodies.{anItem, bodyOf, empty, inClass, isByte, onward, orNone, readFrom};
 ghost use Rattle.body.specs.Entries.{entriesOf, entryOf};
 ghost use Rattle.parts.specs.Parts.{parts};
+ghost use Rattle.std.specs.Results.{Cases};
 ghost use Rattle.std.specs.declared.result.Result.the-variants.{Ok};
 ghost use Rattle.body.specs.Readers.{bodyOr, codesKept, itemsKept, readOr, readSoFar};
 
@@ -87,7 +88,8 @@ impl Reader {
 
     // One part more, which begins at the place `at`; refused by that place where it is an entry too many.
     fn with(self, part: &[u8], at: usize) -> Result<Reader, usize>
-        ensures { λ r. ⌜ readOr r ≡ onward at (readSoFar self) (now (part .entry)) ⌝ }
+        ensures place { λ r. ⌜ Cases r (λ _. Unit {0}) (λ p. p ≡ at) ⌝ }
+        ensures value { λ r. ⌜ readOr r ≡ onward at (readSoFar self) (now (part .entry)) ⌝ }
     {
         if self.items.len >= 16 {
             return Err(at);
@@ -116,7 +118,8 @@ impl Reader {
 
 // All parts of the field.
 fn read_items(field: &[u8]) -> Result<Reader, usize>
-    ensures { λ r. ⌜ readOr r ≡ readFrom 0 (Ok empty) (parts 32 (now (field .entry))) ⌝ }
+    ensures within { λ r. ⌜ Cases r (λ _. Unit {0}) (λ p. p ≤ length (now (field .entry))) ⌝ }
+    ensures value { λ r. ⌜ readOr r ≡ readFrom 0 (Ok empty) (parts 32 (now (field .entry))) ⌝ }
 {
     let mut reader = Reader::new();
     let mut from = 0;
@@ -139,7 +142,8 @@ fn is_star(field: &[u8]) -> bool
 
 // The body that the field says, or the place of the first entry too many.
 pub fn read_body(field: &[u8]) -> Result<Option<Body>, usize>
-    ensures { λ r. ⌜ bodyOr r ≡ bodyOf (now (field .entry)) ⌝ }
+    ensures within { λ r. ⌜ Cases r (λ _. Unit {0}) (λ p. p ≤ length (now (field .entry))) ⌝ }
+    ensures value { λ r. ⌜ bodyOr r ≡ bodyOf (now (field .entry)) ⌝ }
 {
     if is_star(field) {
         return Ok(None);

@@ -1,10 +1,7 @@
 // The names and ranges of a NET, one by one.
-ghost use lib.ListN.{length};
 ghost use mathlib.Core.Path.{_≡_};
-ghost use Prim.Native.Nat.{_+_, _<_, _≤_};
-ghost use Rattle.net.specs.Readers.{Yields};
+ghost use Rattle.net.specs.Readers.{Moves, Yields};
 ghost use Rattle.net.specs.Tokens.{boundsOf, highOf, lowOf};
-ghost use Rattle.std.specs.Options.{Cases};
 
 use parts::part_end;
 use word::Limits;
@@ -77,7 +74,7 @@ impl<'a> NetReader<'a> {
     pub fn next(&mut self) -> Token<'a>
         ensures same { λ _. ⌜ now (self .exit) .field ≡ now (self .entry) .field ⌝ }
         ensures yields { λ r. ⌜ Yields (now (now (self .entry) .field)) (now (self .entry) .at) r (now (self .exit) .at) ⌝ }
-        ensures place { λ r. ⌜ (now (self .entry) .at ≤ length (now (now (self .entry) .field)) → (now (self .entry) .at < now (self .exit) .at) × (now (self .exit) .at ≤ length (now (now (self .entry) .field)) + 1)) ⌝ }
+        ensures moves { λ r. ⌜ Moves (now (now (self .entry) .field)) (now (self .entry) .at) r (now (self .exit) .at) ⌝ }
     {
         let field = self.field;
         let from = self.at;

@@ -18,7 +18,8 @@ returns-in-Break-reader c =
     let p : Part 32 w i e = c .part-end-to .ensures .inside (c .loop-from-test .taken) in
     let r = readSoFar (c .loop-from .reader) in
     let q = err-from-errBy (c .from-residual .result) (c .from-residual .ensures .1) in
-    rw (q .1, q .2) (ap (λ x. readFrom (e + 1) x (left 32 w (e + 1))) (c .in-Break-reader .ensures tt) ∙ one-more w i e r p ∙ c .loop-from .inv .1)
+    let place = c .in-Break-reader .ensures tt .place in
+    rw (q .1, q .2) (record { within = omega (arith, place); value = ap (λ x. readFrom (e + 1) x (left 32 w (e + 1))) (c .in-Break-reader .ensures tt .value) ∙ one-more w i e r p ∙ c .loop-from .inv .1 })
 
 pub loop-from-again : need.loop-from-again
 loop-from-again c =
@@ -27,4 +28,4 @@ loop-from-again c =
     let e = c .part-end-to .result in
     let p : Part 32 w i e = c .part-end-to .ensures .inside (c .loop-from-test .taken) in
     let r = readSoFar (c .loop-from .reader) in
-    (omega (arith, p .within), ap (λ x. readFrom (e + 1) x (left 32 w (e + 1))) (c .in-Continue-reader .ensures tt) ∙ one-more w i e r p ∙ c .loop-from .inv .1)
+    (omega (arith, p .within), ap (λ x. readFrom (e + 1) x (left 32 w (e + 1))) (c .in-Continue-reader .ensures tt .value) ∙ one-more w i e r p ∙ c .loop-from .inv .1)

@@ -17,7 +17,7 @@ returns-in-Some c =
     let e = c .part-end-end .result in
     let p : Part 32 w i m = c .part-end-to .ensures .inside (omega arith) in
     let q : Part 32 w (m + 1) e = c .part-end-end .ensures .inside (omega arith) in
-    record { same = refl; yields = range-step w i m e p q (c .in-Some .bounds) (c .in-Some .ensures tt); place = λ _. (omega (arith, p .from, q .from), omega (arith, q .within)) }
+    record { same = refl; yields = range-step w i m e p q (c .in-Some .bounds) (c .in-Some .ensures tt); moves = (omega arith, omega (arith, p .from, q .from), omega (arith, q .within)) }
 
 pub returns : need.returns
 returns c =
@@ -29,4 +29,4 @@ returns c =
       | need.then-to-field·in-rest v ↦ name-step w i m (v .part-end-end .result) p (v .part-end-end .ensures .inside (omega (arith, v .if-to-field .taken))) (v .in-rest .ensures tt)
       | need.else-to-field v ↦ last-step w i m p (v .if-to-field .left)
     ] in
-    record { same = refl; yields = step; place = λ _. (omega (arith, p .from), omega (arith, p .within)) }
+    record { same = refl; yields = step; moves = (omega arith, omega (arith, p .from), omega (arith, p .within)) }

@@ -21,7 +21,7 @@ returns-then-self-ge16 c =
     let s = c .args .self .items in
     let room : s .len ≤ length (s .items) = search needs in
     let long : length (itemsKept s) ≡ s .len = mapped-length entryOf (s .items) (s .len) room in
-    over (c .args .at) (itemsKept s) (classKept (c .args .self .class)) (c .args .part .now) (omega (arith, long))
+    record { place = refl; value = over (c .args .at) (itemsKept s) (classKept (c .args .self .class)) (c .args .part .now) (omega (arith, long)) }
 
 pub returns-else-codes-ge8 : need.returns-else-codes-ge8
 returns-else-codes-ge8 c =
@@ -34,7 +34,7 @@ returns-else-codes-ge8 c =
     let long : length es ≡ s .len = mapped-length entryOf (s .items) (s .len) room in
     let is : classKept (c .args .self .class) ≡ Some (codesKept k) = ap classKept (c .in-Some .is) in
     let few : leb 8 (length (codesKept k)) ≡ false = lt-leb 8 (length (codesKept k)) (omega (arith, length-take-le (k .len) (k .codes) room-k)) in
-    ap Ok (c .in-class .ensures ∙ sym (ap (λ x. goOn es x p) is)) ∙ under (c .args .at) es (classKept (c .args .self .class)) p (omega (arith, long)) (ap full is ∙ few)
+    record { place = tt; value = ap Ok (c .in-class .ensures ∙ sym (ap (λ x. goOn es x p) is)) ∙ under (c .args .at) es (classKept (c .args .self .class)) p (omega (arith, long)) (ap full is ∙ few) }
 
 pub returns-in-None : need.returns-in-None
 returns-in-None c =
@@ -44,4 +44,4 @@ returns-in-None c =
     let room : s .len ≤ length (s .items) = search needs in
     let long : length es ≡ s .len = mapped-length entryOf (s .items) (s .len) room in
     let is : classKept (c .args .self .class) ≡ None = ap classKept (c .in-None .is) in
-    ap Ok (c .an-item .ensures ∙ sym (ap (λ x. goOn es x p) is)) ∙ under (c .args .at) es (classKept (c .args .self .class)) p (omega (arith, long)) (ap full is)
+    record { place = tt; value = ap Ok (c .an-item .ensures ∙ sym (ap (λ x. goOn es x p) is)) ∙ under (c .args .at) es (classKept (c .args .self .class)) p (omega (arith, long)) (ap full is) }
