@@ -26,7 +26,10 @@ impl Codes {
         ensures kept { λ r. ⌜ codesKept r ≡ [] ⌝ }
         ensures len { λ r. ⌜ r .len ≡ 0 ⌝ }
     {
-        Codes { codes: [0; 8], len: 0 }
+        Codes {
+            codes: [0; 8],
+            len: 0,
+        }
     }
 
     fn with(self, code: u16) -> Codes
@@ -36,7 +39,10 @@ impl Codes {
     {
         let mut codes = self.codes;
         codes[self.len] = code;
-        Codes { codes, len: self.len + 1 }
+        Codes {
+            codes,
+            len: self.len + 1,
+        }
     }
 }
 
@@ -47,7 +53,10 @@ impl Items {
     {
         let mut items = self.items;
         items[self.len] = item;
-        Items { items, len: self.len + 1 }
+        Items {
+            items,
+            len: self.len + 1,
+        }
     }
 }
 
@@ -59,11 +68,17 @@ fn in_class(items: Items, codes: Codes, part: &[u8]) -> Reader
     if let [code @ .., b']'] = part {
         let codes = codes.with(read_code(code));
         match Class::new(&codes.codes[0..codes.len]) {
-            Ok(class) => Reader { items: items.with(Item::Class(class)), class: None },
+            Ok(class) => Reader {
+                items: items.with(Item::Class(class)),
+                class: None,
+            },
             Err(_) => unreachable(),
         }
     } else {
-        Reader { items, class: Some(codes.with(read_code(part))) }
+        Reader {
+            items,
+            class: Some(codes.with(read_code(part))),
+        }
     }
 }
 
@@ -73,9 +88,15 @@ fn an_item(items: Items, part: &[u8]) -> Reader
     ensures { λ r. ⌜ readSoFar r ≡ anItem (itemsKept items) (now (part .entry)) ⌝ }
 {
     match part {
-        [b'.'] => Reader { items: items.with(Item::Any), class: None },
+        [b'.'] => Reader {
+            items: items.with(Item::Any),
+            class: None,
+        },
         [b'[', rest @ ..] => in_class(items, Codes::none(), rest),
-        _ => Reader { items: items.with(Item::Code(read_code(part))), class: None },
+        _ => Reader {
+            items: items.with(Item::Code(read_code(part))),
+            class: None,
+        },
     }
 }
 
@@ -83,7 +104,13 @@ impl Reader {
     fn new() -> Reader
         ensures { λ r. ⌜ readSoFar r ≡ empty ⌝ }
     {
-        Reader { items: Items { items: [Item::Any; 16], len: 0 }, class: None }
+        Reader {
+            items: Items {
+                items: [Item::Any; 16],
+                len: 0,
+            },
+            class: None,
+        }
     }
 
     // One part more, which begins at the place `at`; refused by that place where it is an entry too many.

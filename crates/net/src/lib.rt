@@ -2,7 +2,6 @@
 ghost use mathlib.Core.Path.{_≡_};
 ghost use Rattle.net.specs.Readers.{Moves, Yields};
 ghost use Rattle.net.specs.Tokens.{boundsOf, highOf, lowOf};
-
 use parts::part_end;
 use word::Limits;
 use word::read_number;

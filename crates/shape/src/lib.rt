@@ -34,9 +34,5 @@ pub fn shape_fault(form: Form, field: &[u8]) -> Option<usize>
             None => return Some(i),
         }
     }
-    if is_final(s) {
-        None
-    } else {
-        Some(field.len())
-    }
+    if is_final(s) { None } else { Some(field.len()) }
 }

@@ -1,7 +1,6 @@
 // Where a walk through a field stands: what was read last, and so what may follow.
 ghost use mathlib.Core.Path.{_≡_};
 ghost use Rattle.shape.specs.States.{begin as begun, final, next as led};
-
 use crate::Form;
 use crate::kinds::Kind;
 

@@ -5,8 +5,6 @@ ghost use Rattle.refusal.specs.Checks.{refusedBy};
 ghost use Rattle.std.specs.Vec.{made};
 ghost use Rattle.word.specs.Faults.{lettersFault, nameFault, numbersFault};
 ghost use Rattle.word.specs.Fields.{bytesOf};
-use book::Name;
-
 use crate::faults::WordFault;
 use crate::field::Field;
 use crate::limits::Limits;
@@ -15,6 +13,7 @@ use crate::runs::LetterRunsSort;
 use crate::runs::NumberWords;
 use crate::runs::NumberWordsSort;
 use crate::runs::first_fault;
+use book::Name;
 
 impl<'a> Field<'a> {
     pub fn bytes(&self) -> &'a [u8]

@@ -10,10 +10,9 @@ ghost use Rattle.std.specs.Holes.{between};
 ghost use Rattle.std.specs.Options.{Cases};
 ghost use Rattle.word.specs.Numbers.{isNumber};
 ghost use Rattle.word.specs.Runs.{firstFault, front};
-use book::Name;
-
 use crate::limits::Limits;
 use crate::numbers::read_number;
+use book::Name;
 
 // A sort of bytes, and which runs of them are sound.
 pub(crate) trait Sort {
