@@ -1,0 +1,8 @@
+// Taking the lines of a job into a chapter, one by one.
+pub mod faults;
+pub mod kept;
+mod names;
+mod values;
+
+pub use self::faults::TextFault;
+pub use self::faults::TextFaultFromLine;
