@@ -1,2 +1,5 @@
 pub mod Lookups
 pub mod Walks
+pub mod Soundness
+pub mod FirstName
+pub mod Adds

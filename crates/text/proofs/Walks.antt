@@ -66,3 +66,8 @@ under n i w ts us e h = by (cases-lt n 12) (sym (ap (namesOver n) e) ∙ h)
     by : (n < 12) ⊎ (12 ≤ n) → refuse (leb 12 n) i (namesOver (n + 1) us) ≡ None → (n < 12) × (namesOver (n + 1) us ≡ None)
     by (inl l) f = (l, sym (ap (λ t. refuse t i (namesOver (n + 1) us)) (lt-leb 12 n l)) ∙ f)
     by (inr l) f = let z : _≡_ {A = ℕ} 0 1 = cc (sym (ap (λ t. refuse t i (namesOver (n + 1) us)) (le-leb 12 n l)) ∙ f) in absurd (omega arith)
+
+pub links-length : (ms : List ℕ) (gs : List Range) → length (linksOf ms gs) ≤ length ms
+links-length [] gs = omega arith
+links-length (m ∷ ms) [] = omega arith
+links-length (m ∷ ms) (g ∷ gs) = omega (arith, links-length ms gs)

@@ -4,3 +4,4 @@ pub mod Nets
 pub mod Faults
 pub mod Taking
 pub mod Held
+pub mod Sound

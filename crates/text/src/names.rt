@@ -3,6 +3,7 @@ ghost use lib.ListN.{length};
 ghost use mathlib.Core.List.{List, map};
 ghost use mathlib.Core.Path.{_≡_};
 ghost use Prim.Native.Nat.{ℕ, _<_};
+ghost use Rattle.book.specs.Entries.{taken};
 ghost use Rattle.book.specs.Named.{lettersOf};
 ghost use Rattle.std.specs.Options.{Cases};
 ghost use Rattle.std.specs.shelf.Text.{sameBytes};
@@ -52,4 +53,11 @@ pub(crate) fn number_named<T: Named>(entries: &[T], letters: &[u8]) -> Option<us
         }
     }
     None
+}
+
+// Whether one of the entries has this name.
+pub(crate) fn is_taken<T: Named>(entries: &[T], letters: &[u8]) -> bool
+    ensures { λ r. ⌜ r ≡ taken (now (letters .entry)) (map (T·Named .called) (now (entries .entry))) ⌝ }
+{
+    number_named(entries, letters).is_some()
 }
