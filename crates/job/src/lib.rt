@@ -1,0 +1,6 @@
+// A job text read into a chapter.
+pub mod fault;
+mod reads;
+
+pub use self::fault::JobFault;
+pub use self::reads::read_job;
