@@ -16,7 +16,7 @@ use Rattle.std.specs.declared.result.Result.the-variants.{Ok, Err}
 use Rattle.refusal.specs.Checks.{refuse}
 use Rattle.refusal.specs.declared.Refusal.{Refusal}
 use Rattle.refusal.specs.declared.Refusal.the-variants.{BadShape, TooMany}
-use Rattle.book.specs.Faults.{sizeFault}
+use Rattle.entry.specs.Faults.{sizeFault}
 use Rattle.body.specs.Entries.{Entry, any}
 use Rattle.body.specs.Bodies.{Reading, anItem, full, goOn, inClass, onward, withItem}
 

@@ -3,10 +3,10 @@ use mathlib.Core.List.{List, map}
 use Prim.Native.Nat.{ℕ}
 use Rattle.std.specs.declared.option.Option.{Option}
 use Rattle.std.specs.declared.option.Option.the-variants.{Some, None}
-use Rattle.book.specs.Bodies.{codesOf, itemsOf}
-use Rattle.book.specs.declared.values.body.Body.{Body}
-use Rattle.book.specs.declared.values.body.Item.{Item}
-use Rattle.book.specs.declared.values.body.Item.the-variants.{Code, Any, Class}
+use Rattle.entry.specs.Bodies.{codesOf, itemsOf}
+use Rattle.entry.specs.declared.body.Body.{Body}
+use Rattle.entry.specs.declared.body.Item.{Item}
+use Rattle.entry.specs.declared.body.Item.the-variants.{Code, Any, Class}
 
 pub data Entry : Type 0 where
   code : ℕ → Entry

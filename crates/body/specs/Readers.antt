@@ -6,7 +6,7 @@ use Rattle.std.specs.declared.option.Option.{Option}
 use Rattle.std.specs.declared.option.Option.the-variants.{Some, None}
 use Rattle.std.specs.declared.result.Result.{Result}
 use Rattle.std.specs.declared.result.Result.the-variants.{Ok, Err}
-use Rattle.book.specs.declared.values.body.Body.{Body}
+use Rattle.entry.specs.declared.body.Body.{Body}
 use Rattle.body.specs.Entries.{Entry, entryOf, entriesOf}
 use Rattle.body.specs.Bodies.{Reading}
 use Rattle.body.specs.declared.kept.Codes.{Codes}

@@ -1,5 +1,5 @@
 ghost use Prim.Native.Nat.{_≤_};
-use book::Item;
+use entry::Item;
 
 // The codes of a class so far.
 #[derive(Clone, Copy)]

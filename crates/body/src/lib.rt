@@ -12,9 +12,9 @@ ghost use Rattle.body.specs.Readers.{bodyOr, codesKept, itemsKept, readOr, rea
 
 pub mod kept;
 
-use book::Body;
-use book::Class;
-use book::Item;
+use entry::Body;
+use entry::Class;
+use entry::Item;
 use kept::Codes;
 use kept::Items;
 use kept::Reader;

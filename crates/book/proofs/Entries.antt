@@ -11,11 +11,11 @@ use Rattle.std.specs.shelf.Text.{sameBytes}
 use Rattle.std.proofs.shelf.Lists.{length-push}
 use Rattle.std.proofs.shelf.Equals.{sameBytes-decides}
 use Rattle.std.proofs.shelf.Tests.{and-parts, and-from, or-parts, or-from, not-true, not-from-false, cases-bool, both-ways, ltb-true, lt-ltb}
-use Rattle.book.specs.Lists.{every, any}
+use Rattle.entry.specs.Lists.{every, any}
 use Rattle.book.specs.Entries.{taken, distinct, Unique, known, allKnown, held, allHeld}
-use Rattle.book.specs.Rules.{motifsOf}
-use Rattle.book.specs.declared.values.mark.Mark.{Mark}
-use Rattle.book.specs.declared.values.rule.Rule.{Rule}
+use Rattle.entry.specs.Rules.{motifsOf}
+use Rattle.entry.specs.declared.mark.Mark.{Mark}
+use Rattle.entry.specs.declared.rule.Rule.{Rule}
 
 pub every-push : {X : Type 0} (test : X → Bool) (xs : List X) (y : X) → every test xs ≡ true → test y ≡ true → every test (xs ++ y ∷ []) ≡ true
 every-push test [] y h t = and-from (test y) true t refl
@@ -80,9 +80,9 @@ pub held-more : (n n' : ℕ) → n ≤ n' → (ms : List Mark) → allHeld n ms 
 held-more n n' le ms h =
     every-weaker (held n) (held n')
     (λ m k.
-        let places = leb (m .start) 20000 && leb (m .end) 20000 in
-        let p = and-parts (ltb (m .motif) n) places k in
-        and-from (ltb (m .motif) n') places (below-more n n' (m .motif) le (p .0)) (p .1))
+    let places = leb (m .start) 20000 && leb (m .end) 20000 in
+    let p = and-parts (ltb (m .motif) n) places k in
+    and-from (ltb (m .motif) n') places (below-more n n' (m .motif) le (p .0)) (p .1))
     ms h
 
 -- a list that was perhaps added to is no shorter

@@ -10,13 +10,13 @@ use Rattle.std.specs.declared.option.Option.the-variants.{None}
 use Rattle.refusal.specs.Checks.{refuse}
 use Rattle.refusal.specs.declared.Refusal.{Refusal}
 use Rattle.refusal.specs.declared.Refusal.the-variants.{BadNumber, BadShape, NameTaken, NoRoom, UnknownMotif}
-use Rattle.book.specs.Named.{lettersOf}
+use Rattle.entry.specs.Named.{lettersOf}
 use Rattle.book.specs.Entries.{motifNames, ruleNames, taken, known}
 use Rattle.book.specs.declared.values.book.Book.{Book}
 use Rattle.book.specs.declared.values.chapter.Chapter.{Chapter}
-use Rattle.book.specs.declared.values.mark.Mark.{Mark}
-use Rattle.book.specs.declared.values.motif.Motif.{Motif}
-use Rattle.book.specs.declared.values.rule.Rule.{Rule}
+use Rattle.entry.specs.declared.mark.Mark.{Mark}
+use Rattle.entry.specs.declared.motif.Motif.{Motif}
+use Rattle.entry.specs.declared.rule.Rule.{Rule}
 
 -- `motifsIn b`        the motifs of a book, in the order of their numbers
 abbrev pub motifsIn : Book → List Motif

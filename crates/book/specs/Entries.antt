@@ -6,12 +6,12 @@ use Prim.Native.Nat.{ℕ, _<_}
 use lib.Dec.{leb, ltb}
 use lib.ListN.{length, getD}
 use Rattle.std.specs.shelf.Text.{sameBytes}
-use Rattle.book.specs.Lists.{every, any}
-use Rattle.book.specs.Named.{lettersOf}
-use Rattle.book.specs.Rules.{motifsOf}
-use Rattle.book.specs.declared.values.mark.Mark.{Mark}
-use Rattle.book.specs.declared.values.motif.Motif.{Motif}
-use Rattle.book.specs.declared.values.rule.Rule.{Rule}
+use Rattle.entry.specs.Lists.{every, any}
+use Rattle.entry.specs.Named.{lettersOf}
+use Rattle.entry.specs.Rules.{motifsOf}
+use Rattle.entry.specs.declared.mark.Mark.{Mark}
+use Rattle.entry.specs.declared.motif.Motif.{Motif}
+use Rattle.entry.specs.declared.rule.Rule.{Rule}
 
 abbrev pub motifNames : List Motif → List (List ℕ)
 motifNames ms = map (λ m. lettersOf (m .name)) ms

@@ -7,19 +7,18 @@ ghost use mathlib.Core.Path.{_≡_};
 ghost use Prim.Native.Nat.{ℕ};
 ghost use Rattle.book.specs.Adding.{motifFault, motifsIn, ruleAddFault, rulesIn};
 ghost use Rattle.book.specs.Entries.{Unique, motifNames, ruleNames, taken};
-ghost use Rattle.book.specs.Lists.{any, every};
-ghost use Rattle.book.specs.Named.{lettersOf};
+ghost use Rattle.entry.specs.Lists.{any, every};
+ghost use Rattle.entry.specs.Named.{lettersOf};
 ghost use Rattle.refusal.specs.Checks.{refusedBy};
 ghost use Rattle.std.specs.Results.{isOk};
 ghost use Rattle.std.specs.shelf.Text.{sameBytes};
 ghost use Rattle.std.specs.Vec.{made, refused as left};
+use crate::values::book::Book;
+use entry::Motif;
+use entry::Rule;
 use refusal::Refusal;
 use std::alloc::AllocError;
 use std::alloc::Global;
-
-use crate::values::book::Book;
-use crate::values::motif::Motif;
-use crate::values::rule::Rule;
 
 // What has a name among others of its kind.
 trait Named {

@@ -9,15 +9,14 @@ ghost use Rattle.refusal.specs.Checks.{refusedBy};
 ghost use Rattle.std.specs.Of.Vec.{vec-cap, vec-items, vec-len};
 ghost use Rattle.std.specs.Results.{isOk};
 ghost use Rattle.std.specs.Vec.{made, refused as left};
+use crate::values::book::Book;
+use crate::values::chapter::Chapter;
+use entry::Mark;
+use entry::Motif;
+use entry::Rule;
 use refusal::Refusal;
 use std::alloc::AllocError;
 use std::alloc::Global;
-
-use crate::values::book::Book;
-use crate::values::chapter::Chapter;
-use crate::values::mark::Mark;
-use crate::values::motif::Motif;
-use crate::values::rule::Rule;
 
 // Appends codes for which there is room already, so that it can't want memory.
 fn append(row: &mut Vec<u16>, codes: &[u16])
@@ -42,12 +41,6 @@ impl Chapter {
         let row = Vec::with_capacity(heap, 20_000)?;
         let marks = Vec::with_capacity(heap, 4_000)?;
         Ok(Chapter { book, row, marks })
-    }
-
-    pub fn book(&self) -> &Book
-        ensures { λ r. ⌜ now r ≡ now (self .entry) .book ⌝ }
-    {
-        &self.book
     }
 
     // The codes of the boxes, at most 20,000.

@@ -44,7 +44,8 @@ pub impl<S: Source> Source for Window<S> as WindowSource {
         if start > length || least > length {
             return None;
         }
-        match self.source.next_end(motif, start + self.from, least + self.from) {
+        match self.source
+            .next_end(motif, start + self.from, least + self.from) {
             Some(end) if end <= self.to => Some(end - self.from),
             _ => None,
         }
@@ -55,7 +56,8 @@ pub impl<S: Source> Source for Window<S> as WindowSource {
         if end > length || least > length {
             return None;
         }
-        match self.source.next_start(motif, end + self.from, least + self.from) {
+        match self.source
+            .next_start(motif, end + self.from, least + self.from) {
             Some(start) => Some(start - self.from),
             None => None,
         }

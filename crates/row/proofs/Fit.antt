@@ -7,9 +7,9 @@ use native.Mathlib.Omega.{arith}
 use lib.ListN.{length, take, drop, getD}
 use Rattle.std.proofs.shelf.Lists.{drop-more, drop-all, take-rest, getD-map, getD-past, length-map}
 use Rattle.std.proofs.shelf.Tests.{and-from, and-right, eq-eqb, both-ways}
-use Rattle.book.specs.Bodies.{items, fits, allFit}
-use Rattle.book.specs.declared.values.body.Item.{Item}
-use Rattle.book.specs.declared.values.motif.Motif.{Motif}
+use Rattle.entry.specs.Bodies.{items, fits, allFit}
+use Rattle.entry.specs.declared.body.Item.{Item}
+use Rattle.entry.specs.declared.motif.Motif.{Motif}
 use Rattle.row.specs.Row.{itemsAt, stands}
 use Rattle.row.specs.Laws.{standing}
 
@@ -31,7 +31,7 @@ fit-short [] xs h = absurd (omega arith)
 fit-short (i ∷ is) [] h = refl
 fit-short (i ∷ is) (x ∷ xs) h = and-right (fits i x) (allFit is xs) (fit-short is xs (omega arith))
 
-stands-from : (is : List Item) (xs : List ℕ) (a b : ℕ) → 0 < length is → b ≡ a + length is → allFit is (drop a xs) ≡ true → stands is xs a b ≡ true
+pub stands-from : (is : List Item) (xs : List ℕ) (a b : ℕ) → 0 < length is → b ≡ a + length is → allFit is (drop a xs) ≡ true → stands is xs a b ≡ true
 stands-from [] xs a b h e f = absurd (omega arith)
 stands-from (i ∷ is) xs a b h e f = and-from _ _ (eq-eqb b (a + length (i ∷ is)) e) f
 

@@ -11,11 +11,11 @@ use Rattle.std.proofs.shelf.Tests.{and-parts, eqb-true, true≢false}
 use Rattle.std.specs.declared.option.Option.{Option}
 use Rattle.std.specs.declared.option.Option.the-variants.{Some, None}
 use Rattle.book.specs.Adding.{motifsIn}
-use Rattle.book.specs.Bodies.{items, fits, allFit}
-use Rattle.book.specs.declared.values.body.Body.{Body}
-use Rattle.book.specs.declared.values.body.Item.{Item}
+use Rattle.entry.specs.Bodies.{items, fits, allFit}
+use Rattle.entry.specs.declared.body.Body.{Body}
+use Rattle.entry.specs.declared.body.Item.{Item}
 use Rattle.book.specs.declared.values.book.Book.{Book}
-use Rattle.book.specs.declared.values.motif.Motif.{Motif}
+use Rattle.entry.specs.declared.motif.Motif.{Motif}
 use Rattle.source.specs.Meaning.{Lawful, Fair}
 use Rattle.row.specs.Row.{itemsAt, stands, rowMeaning, rowPrice}
 

@@ -2,11 +2,14 @@
 ghost use denote.Ref.{now as held};
 ghost use lib.ListN.{length};
 ghost use mathlib.Core.Path.{_≡_};
+ghost use Prim.Native.Nat.{ℕ};
 ghost use Rattle.book.specs.Adding.{motifsIn};
-ghost use Rattle.book.specs.Bodies.{allFit};
+ghost use Rattle.entry.specs.Bodies.{allFit};
 ghost use Rattle.refusal.specs.Checks.{refusedBy};
 ghost use Rattle.row.specs.Laws.{row-fair, row-lawful};
-ghost use Rattle.row.specs.Row.{itemsAt, rowFault, rowMeaning, rowPrice};
+ghost use Rattle.row.specs.Opened.{openedMeaning};
+ghost use Rattle.row.specs.Row.{StandsAt, itemsAt, rowFault, rowMeaning, rowPrice};
+ghost use Rattle.std.specs.Orderings.{Decides};
 ghost use Rattle.std.specs.Vec.{made};
 
 pub mod types;
@@ -14,7 +17,7 @@ pub mod types;
 pub use self::types::RowSource;
 pub use self::types::RowTest;
 use book::Book;
-use book::Item;
+use entry::Item;
 use refusal::Refusal;
 use source::PricedSource;
 use source::Source;
@@ -31,8 +34,10 @@ impl<'a> RowTest<'a> {
         Ok(RowTest { row, book })
     }
 
+    // The source of what passed. Its stretches, box by box: each box fits its item.
     pub fn open(self) -> RowSource<'a>
-        ensures { λ r. ⌜ rowMeaning (now (r .row)) (now (r .book)) ≡ rowMeaning (now (self .entry .row)) (now (self .entry .book)) ⌝ }
+        ensures meaning { λ r. ⌜ openedMeaning r ≡ rowMeaning (now (self .entry .row)) (now (self .entry .book)) ⌝ }
+        ensures stretches { λ r. ⌜ ((k a b : ℕ) → Decides (openedMeaning r .has k a b) (StandsAt (itemsAt (motifsIn (now (self .entry .book))) k) (now (self .entry .row)) a b)) ⌝ }
     {
         let RowTest { row, book } = self;
         RowSource { row, book }
@@ -70,7 +75,7 @@ impl RowSource<'_> {
 }
 
 pub impl Source for RowSource<'_> as RowSourceSource {
-    ghost means = { λ s. rowMeaning (held (s .row)) (held (s .book)) };
+    ghost means = { openedMeaning };
 
     ghost lawful = { λ s. row-lawful (held (s .row)) (held (s .book)) (s .short) };
 

@@ -41,3 +41,18 @@ pub record Fair (p : Price) : Type 0 where
   pub some : 1 ≤ p .look
   pub look-bound : p .look ≤ 1000
   pub opening-bound : p .opening ≤ 1000
+
+-- the meaning of a priced source, whole
+pub record Priced : Type 0 where
+  pub boxes : ℕ
+  pub has : ℕ → ℕ → ℕ → Bool
+  pub look : ℕ → ℕ
+  pub opening : ℕ → ℕ
+
+-- `priced M price`  a meaning with its prices
+abbrev pub priced : Meaning → (ℕ → Price) → Priced
+priced M price = record { boxes = M .boxes; has = M .has; look = λ k. price k .look; opening = λ k. price k .opening }
+
+-- `plain P`         the same without them
+abbrev pub plain : Priced → Meaning
+plain P = record { boxes = P .boxes; has = P .has }

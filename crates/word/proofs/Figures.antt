@@ -14,7 +14,7 @@ use Rattle.std.proofs.shelf.Signed.{ints}
 use Rattle.std.proofs.shelf.Tests.{and-parts, and-right, and-from, and-left, lt-leb, le-leb, cases-lt}
 use Rattle.std.specs.declared.option.Option.{Option}
 use Rattle.std.specs.declared.option.Option.the-variants.{Some, None}
-use Rattle.book.specs.Lists.{every}
+use Rattle.entry.specs.Lists.{every}
 use Rattle.shape.specs.Kinds.{isDigit}
 use Rattle.word.specs.Numbers.{decimal, kept, leads, minus, plain, plus, written}
 

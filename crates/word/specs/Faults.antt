@@ -7,7 +7,7 @@ use Rattle.std.specs.declared.option.Option.the-variants.{Some, None}
 use Rattle.refusal.specs.Checks.{refuse}
 use Rattle.refusal.specs.declared.Refusal.{Refusal}
 use Rattle.refusal.specs.declared.Refusal.the-variants.{BadName as ByName, BadNumber as ByNumber}
-use Rattle.book.specs.Names.{isName}
+use Rattle.entry.specs.Names.{isName}
 use Rattle.shape.specs.Kinds.{isAnyLetter, isNumeral}
 use Rattle.word.specs.Numbers.{isNumber}
 use Rattle.word.specs.Runs.{firstFault}

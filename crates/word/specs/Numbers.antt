@@ -9,7 +9,7 @@ use lib.Signed.{leZ}
 use Rattle.std.specs.Options.{isSome}
 use Rattle.std.specs.declared.option.Option.{Option}
 use Rattle.std.specs.declared.option.Option.the-variants.{Some, None}
-use Rattle.book.specs.Lists.{every}
+use Rattle.entry.specs.Lists.{every}
 use Rattle.shape.specs.Kinds.{isDigit}
 use Rattle.word.specs.declared.limits.Limits.{Limits}
 use Rattle.word.specs.declared.limits.Limits.the-variants.{Code, Shift, Place}

@@ -1,6 +1,6 @@
 // The verdicts on the words of a field; a place is counted from the start of the line.
 ghost use mathlib.Core.Path.{_≡_};
-ghost use Rattle.book.specs.Named.{lettersOf};
+ghost use Rattle.entry.specs.Named.{lettersOf};
 ghost use Rattle.refusal.specs.Checks.{refusedBy};
 ghost use Rattle.std.specs.Vec.{made};
 ghost use Rattle.word.specs.Faults.{lettersFault, nameFault, numbersFault};
@@ -13,7 +13,7 @@ use crate::runs::LetterRunsSort;
 use crate::runs::NumberWords;
 use crate::runs::NumberWordsSort;
 use crate::runs::first_fault;
-use book::Name;
+use entry::Name;
 
 impl<'a> Field<'a> {
     pub fn bytes(&self) -> &'a [u8]

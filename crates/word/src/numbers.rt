@@ -1,7 +1,7 @@
 // The numbers that words write.
 ghost use mathlib.Core.Path.{_≡_};
 ghost use lib.IntN.{negsuc, pos};
-ghost use Rattle.book.specs.Lists.{every};
+ghost use Rattle.entry.specs.Lists.{every};
 ghost use Rattle.shape.specs.Kinds.{isDigit};
 ghost use Rattle.word.specs.Numbers.{codeOf, highest, kept, lowest, numberOf, placeOf, plain, plus, written};
 use crate::limits::Limits;

@@ -4,7 +4,7 @@ ghost use mathlib.Core.Bool.{Bool, true};
 ghost use mathlib.Core.List.{List};
 ghost use mathlib.Core.Path.{_≡_};
 ghost use Prim.Native.Nat.{ℕ, _≤_, _<_};
-ghost use Rattle.book.specs.Names.{isName};
+ghost use Rattle.entry.specs.Names.{isName};
 ghost use Rattle.shape.specs.Kinds.{isAnyLetter, isNumeral};
 ghost use Rattle.std.specs.Holes.{between};
 ghost use Rattle.std.specs.Options.{Cases};
@@ -12,7 +12,7 @@ ghost use Rattle.word.specs.Numbers.{isNumber};
 ghost use Rattle.word.specs.Runs.{firstFault, front};
 use crate::limits::Limits;
 use crate::numbers::read_number;
-use book::Name;
+use entry::Name;
 
 // A sort of bytes, and which runs of them are sound.
 pub(crate) trait Sort {

@@ -1,6 +1,5 @@
-use super::motif::Motif;
-use super::rule::Rule;
-
+use entry::Motif;
+use entry::Rule;
 ghost use mathlib.Core.Bool.{true};
 ghost use mathlib.Core.Path.{_≡_};
 ghost use Prim.Native.Nat.{_≤_};

@@ -1,6 +1,5 @@
 use super::book::Book;
-use super::mark::Mark;
-
+use entry::Mark;
 ghost use mathlib.Core.Bool.{true};
 ghost use mathlib.Core.Path.{_≡_};
 ghost use Prim.Native.Nat.{_≤_};
@@ -11,7 +10,7 @@ ghost use Rattle.book.specs.Entries.{allHeld};
 // the start. A mark's start may lie behind its end here.
 #[derive(Drop)]
 pub struct Chapter {
-    pub(crate) book: Book,
+    pub book: Book,
     pub(crate) row: Vec<u16>,
     pub(crate) marks: Vec<Mark>,
     ghost short: { vec-len row ≤ 20000 },

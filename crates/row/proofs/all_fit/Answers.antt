@@ -2,7 +2,7 @@ use mathlib.Core.Path.{_≡_, sym, ap, _∙_}
 use mathlib.Core.Bool.{true, false}
 use native.Mathlib.Omega.{arith}
 use lib.ListN.{getD}
-use Rattle.book.specs.Bodies.{fits}
+use Rattle.entry.specs.Bodies.{fits}
 use Rattle.row.proofs.Fit.{fit-on, fit-end, fit-short}
 use Rattle.row.proofs.all_fit.Needs as need
 

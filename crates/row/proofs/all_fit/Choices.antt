@@ -1,7 +1,7 @@
 use mathlib.Core.Path.{_≡_}
 use Prim.Native.Nat.{_≤_}
 use lib.ListN.{length, drop}
-use Rattle.book.specs.Bodies.{allFit}
+use Rattle.entry.specs.Bodies.{allFit}
 use Rattle.row.proofs.all_fit.Given as given
 
 abbrev pub Inv-loop-i : given.InvT-loop-i

@@ -3,7 +3,7 @@ use mathlib.Core.Path.{sym}
 use lib.Dec.{ltb}
 use lib.ListN.{getD}
 use Rattle.std.proofs.shelf.Tests.{lt-ltb, le-ltb}
-use Rattle.book.proofs.Loops.{every-on, every-end}
+use Rattle.entry.proofs.Loops.{every-on, every-end}
 use Rattle.book.proofs.books.all_below.Needs as need
 
 pub returns-then-k-count : need.returns-then-k-count

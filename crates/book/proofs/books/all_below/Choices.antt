@@ -1,7 +1,7 @@
 use mathlib.Core.Path.{_≡_}
 use lib.Dec.{ltb}
 use lib.ListN.{drop}
-use Rattle.book.specs.Lists.{every}
+use Rattle.entry.specs.Lists.{every}
 use Rattle.book.proofs.books.all_below.Given as given
 
 abbrev pub Inv-loop-k : given.InvT-loop-k

@@ -6,7 +6,7 @@ use Prim.Native.Nat.{_<_, _≤_}
 use lib.ListN.{length, getD}
 use Rattle.std.specs.shelf.Text.{sameBytes}
 use Rattle.std.proofs.shelf.Lists.{getD-map, length-map}
-use Rattle.book.proofs.Loops.{any-on, any-end}
+use Rattle.entry.proofs.Loops.{any-on, any-end}
 use Rattle.book.proofs.books.name_taken.Needs as need
 
 pub returns-then-same-letters : need.returns-then-same-letters

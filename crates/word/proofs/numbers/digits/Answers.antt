@@ -6,7 +6,7 @@ use lib.ListN.{drop}
 use Prim.Native.Nat.{_+_, _*_, _-_}
 use Rattle.std.proofs.shelf.Signed.{ints}
 use Rattle.std.specs.declared.option.Option.the-variants.{Some}
-use Rattle.book.proofs.Loops.{every-on, every-end}
+use Rattle.entry.proofs.Loops.{every-on, every-end}
 use Rattle.shape.specs.Kinds.{isDigit}
 use lib.ListN.{getD}
 use Rattle.word.proofs.Figures.{decimal-all, decimal-ge, decimal-more, leads-is, plain-far, plain-is, plain-not}

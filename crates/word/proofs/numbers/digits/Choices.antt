@@ -1,7 +1,7 @@
 use Prim.Native.Nat.{ℕ, _≤_}
 use mathlib.Core.Path.{_≡_}
 use lib.ListN.{drop}
-use Rattle.book.specs.Lists.{every}
+use Rattle.entry.specs.Lists.{every}
 use Rattle.shape.specs.Kinds.{isDigit}
 use Rattle.word.specs.Numbers.{decimal}
 use Rattle.word.proofs.numbers.digits.Given as given

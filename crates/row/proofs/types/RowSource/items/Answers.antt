@@ -1,5 +1,5 @@
 use mathlib.Core.Path.{_≡_, sym, ap, _∙_}
-use Rattle.book.specs.Bodies.{items}
+use Rattle.entry.specs.Bodies.{items}
 use Rattle.row.specs.Row.{itemsAt}
 use Rattle.row.proofs.Fit.{items-at, items-past}
 use Rattle.row.proofs.types.RowSource.items.Needs as need

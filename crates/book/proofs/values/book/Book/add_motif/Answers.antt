@@ -5,7 +5,7 @@ use Prim.Native.Nat.{_≤_}
 use Rattle.std.specs.Of.Vec.{vec-items, vec-len}
 use Rattle.std.proofs.shelf.Lists.{map-push}
 use Rattle.book.specs.Entries.{distinct, motifNames, taken}
-use Rattle.book.specs.Named.{lettersOf}
+use Rattle.entry.specs.Named.{lettersOf}
 use Rattle.book.proofs.Entries.{distinct-push, known-more}
 use Rattle.book.proofs.values.book.Book.add_motif.Needs as need
 
@@ -15,9 +15,9 @@ ghost-self c =
     let m = c .args .motif in
     let old = vec-items (s .motifs) in
     let free : taken (lettersOf (m .name)) (motifNames old) ≡ false =
-        sym (c .if-name-taken .ensures tt ∙ ap (λ n. taken n (motifNames (c .as-slice .result .now))) (c .letters .ensures) ∙ ap (λ xs. taken (lettersOf (m .name)) (motifNames xs)) (c .as-slice .ensures .value)) in
+    sym (c .if-name-taken .ensures tt ∙ ap (λ n. taken n (motifNames (c .as-slice .result .now))) (c .letters .ensures) ∙ ap (λ xs. taken (lettersOf (m .name)) (motifNames xs)) (c .as-slice .ensures .value)) in
     let more : vec-len (s .motifs) ≤ vec-len (c .push-reserved .last .self) = omega (arith, c .push-reserved .ensures .len) in
     let names =
-        ap (λ xs. distinct (motifNames xs)) (c .push-reserved .ensures .items) ∙ ap distinct (map-push (λ x. lettersOf (x .name)) old m)
-        ∙ distinct-push (motifNames old) (lettersOf (m .name)) (s .motifnames) free in
+    ap (λ xs. distinct (motifNames xs)) (c .push-reserved .ensures .items) ∙ ap distinct (map-push (λ x. lettersOf (x .name)) old m)
+    ∙ distinct-push (motifNames old) (lettersOf (m .name)) (s .motifnames) free in
     (omega arith, (s .eight, (omega arith, (s .ruleroom, (names, (s .rulenames, (known-more _ _ more (vec-items (s .rules)) (s .known), tt)))))))

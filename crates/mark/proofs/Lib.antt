@@ -1,0 +1,4 @@
+pub mod Copies
+pub mod Judgement
+pub mod Order
+pub mod Search

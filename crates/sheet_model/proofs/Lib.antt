@@ -1,0 +1,4 @@
+pub mod Sheets
+pub mod Looking
+pub mod Nexts
+pub mod Stacks

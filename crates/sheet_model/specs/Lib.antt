@@ -1,0 +1,4 @@
+pub mod Strip
+pub mod Sheet
+pub mod History
+pub mod Stack
