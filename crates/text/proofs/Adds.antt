@@ -18,12 +18,12 @@ use Rattle.refusal.specs.declared.Refusal.{Refusal}
 use Rattle.refusal.specs.declared.Refusal.the-variants.{BadNumber as ByNumber, BadShape as ByShape, NameTaken as ByTaken, NoRoom as ByRoom, UnknownMotif as ByUnknown}
 use Rattle.book.specs.Adding.{motifsIn, rulesIn, rowOf, marksOf, boxesFault, markFault, motifFault, ruleAddFault}
 use Rattle.book.specs.Entries.{known, motifNames, ruleNames, taken}
-use Rattle.book.specs.Rules.{Link, netOf}
-use Rattle.book.specs.Named.{lettersOf}
+use Rattle.entry.specs.Rules.{Link, netOf}
+use Rattle.entry.specs.Named.{lettersOf}
 use Rattle.book.specs.declared.values.chapter.Chapter.{Chapter}
-use Rattle.book.specs.declared.values.mark.Mark.{Mark}
-use Rattle.book.specs.declared.values.motif.Motif.{Motif}
-use Rattle.book.specs.declared.values.rule.Rule.{Rule}
+use Rattle.entry.specs.declared.mark.Mark.{Mark}
+use Rattle.entry.specs.declared.motif.Motif.{Motif}
+use Rattle.entry.specs.declared.rule.Rule.{Rule}
 use Rattle.body.specs.Bodies.{bodyOf}
 use Rattle.body.specs.Entries.{entriesOf}
 use Rattle.text.specs.Pages.{MotifEntry, Page, RuleEntry, motifEntry, motifNamesIn, pageOf, ruleEntry, ruleNamesIn}

@@ -12,7 +12,7 @@ use Rattle.std.proofs.shelf.Lists.{length-drop}
 use Rattle.std.specs.declared.option.Option.{Option}
 use Rattle.std.specs.declared.option.Option.the-variants.{Some, None}
 use Rattle.refusal.specs.Checks.{refuse, refusedBy}
-use Rattle.book.specs.Names.{isName}
+use Rattle.entry.specs.Names.{isName}
 use Rattle.parts.specs.Parts.{before, left, parts, tally}
 use Rattle.shape.specs.Follow.{misfit}
 use Rattle.shape.specs.Grammar.{shapeOf}

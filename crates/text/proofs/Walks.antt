@@ -14,9 +14,9 @@ use Rattle.std.specs.declared.option.Option.the-variants.{Some, None}
 use Rattle.std.specs.declared.result.Result.{Result}
 use Rattle.std.specs.declared.result.Result.the-variants.{Ok, Err}
 use Rattle.refusal.specs.Checks.{refuse}
-use Rattle.book.specs.Lists.{every}
-use Rattle.book.specs.Rules.{Link, linksOf}
-use Rattle.book.specs.declared.values.range.Range.{Range}
+use Rattle.entry.specs.Lists.{every}
+use Rattle.entry.specs.Rules.{Link, linksOf}
+use Rattle.entry.specs.declared.range.Range.{Range}
 use Rattle.net.specs.Tokens.{Tok, name, namesOver, range}
 use Rattle.net.specs.declared.Bounds.{Bounds}
 use Rattle.text.specs.Held.{boundsIn}

@@ -4,8 +4,8 @@ use Prim.Native.Nat.{ℕ}
 use lib.ListN.{take}
 use Rattle.std.specs.declared.result.Result.{Result}
 use Rattle.std.specs.declared.result.Result.the-variants.{Ok, Err}
-use Rattle.book.specs.Rules.{Link, linksOf}
-use Rattle.book.specs.declared.values.range.Range.{Range}
+use Rattle.entry.specs.Rules.{Link, linksOf}
+use Rattle.entry.specs.declared.range.Range.{Range}
 use Rattle.net.specs.declared.Bounds.{Bounds}
 use Rattle.text.specs.declared.kept.Codes.{Codes}
 use Rattle.text.specs.declared.kept.Steps.{Steps}

@@ -9,8 +9,8 @@ use Rattle.std.specs.declared.option.Option.the-variants.{Some, None}
 use Rattle.std.specs.declared.result.Result.{Result}
 use Rattle.std.specs.declared.result.Result.the-variants.{Ok, Err}
 use Rattle.refusal.specs.declared.Refusal.{Refusal}
-use Rattle.book.specs.Faults.{rangeFault}
-use Rattle.book.specs.Rules.{Link, Net}
+use Rattle.entry.specs.Faults.{rangeFault}
+use Rattle.entry.specs.Rules.{Link, Net}
 use Rattle.net.specs.Tokens.{Tok, name, netTokens, range}
 use Rattle.net.specs.declared.Bounds.{Bounds}
 use Rattle.text.specs.Names.{numberIn}

@@ -3,12 +3,12 @@ use mathlib.Core.List.{List, map}
 use Prim.Native.Nat.{ℕ}
 use Rattle.std.specs.declared.option.Option.{Option}
 use Rattle.book.specs.Adding.{marksOf, motifsIn, rowOf, rulesIn}
-use Rattle.book.specs.Named.{lettersOf}
-use Rattle.book.specs.Rules.{Net, netOf}
+use Rattle.entry.specs.Named.{lettersOf}
+use Rattle.entry.specs.Rules.{Net, netOf}
 use Rattle.book.specs.declared.values.chapter.Chapter.{Chapter}
-use Rattle.book.specs.declared.values.mark.Mark.{Mark}
-use Rattle.book.specs.declared.values.motif.Motif.{Motif}
-use Rattle.book.specs.declared.values.rule.Rule.{Rule}
+use Rattle.entry.specs.declared.mark.Mark.{Mark}
+use Rattle.entry.specs.declared.motif.Motif.{Motif}
+use Rattle.entry.specs.declared.rule.Rule.{Rule}
 use Rattle.body.specs.Entries.{Entry, entriesOf}
 
 pub record MotifEntry : Type 0 where

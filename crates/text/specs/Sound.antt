@@ -6,7 +6,7 @@ use Prim.Native.Nat.{ℕ, _+_, _≤_}
 use lib.ListN.{length}
 use Rattle.std.specs.declared.option.Option.the-variants.{None}
 use Rattle.refusal.specs.Checks.{refusedBy}
-use Rattle.book.specs.Names.{isName}
+use Rattle.entry.specs.Names.{isName}
 use Rattle.shape.specs.Follow.{misfit}
 use Rattle.shape.specs.Grammar.{net}
 use Rattle.body.specs.Bodies.{bodyOf}

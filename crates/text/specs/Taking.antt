@@ -9,7 +9,7 @@ use Rattle.std.specs.declared.option.Option.the-variants.{Some, None}
 use Rattle.std.specs.declared.result.Result.{Result}
 use Rattle.std.specs.declared.result.Result.the-variants.{Ok, Err}
 use Rattle.book.specs.Entries.{taken}
-use Rattle.book.specs.Rules.{Link}
+use Rattle.entry.specs.Rules.{Link}
 use Rattle.parts.specs.Parts.{parts}
 use Rattle.word.specs.Numbers.{codeOf}
 use Rattle.body.specs.Bodies.{bodyOf}

@@ -4,13 +4,13 @@ ghost use mathlib.Core.List.{List, map};
 ghost use mathlib.Core.Path.{_≡_};
 ghost use Prim.Native.Nat.{ℕ, _<_};
 ghost use Rattle.book.specs.Entries.{taken};
-ghost use Rattle.book.specs.Named.{lettersOf};
+ghost use Rattle.entry.specs.Named.{lettersOf};
 ghost use Rattle.std.specs.Options.{Cases};
 ghost use Rattle.std.specs.shelf.Text.{sameBytes};
 ghost use Rattle.text.specs.Names.{numberIn};
-use book::Motif;
-use book::Name;
-use book::Rule;
+use entry::Motif;
+use entry::Name;
+use entry::Rule;
 
 // What has a name among others of its kind.
 pub(crate) trait Named {

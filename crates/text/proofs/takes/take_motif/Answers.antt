@@ -4,7 +4,7 @@ use lib.Dec.{leb}
 use lib.ListN.{length}
 use Rattle.book.specs.Adding.{motifFault, motifsIn}
 use Rattle.book.specs.Entries.{motifNames, taken}
-use Rattle.book.specs.declared.values.motif.Motif.{Motif}
+use Rattle.entry.specs.declared.motif.Motif.{Motif}
 use Rattle.body.specs.Bodies.{bodyOf}
 use Rattle.text.specs.Pages.{Page, pageOf}
 use Rattle.text.specs.Taking.{bodyIn, takeMotif, withMotif}

@@ -9,8 +9,8 @@ use Rattle.std.proofs.shelf.Lists.{length-take}
 use Rattle.std.specs.declared.result.Result.the-variants.{Ok, Err}
 use Rattle.book.specs.Adding.{motifsIn, ruleAddFault, rulesIn}
 use Rattle.book.specs.Entries.{motifNames, ruleNames, taken}
-use Rattle.book.specs.Lists.{every}
-use Rattle.book.specs.Named.{lettersOf}
+use Rattle.entry.specs.Lists.{every}
+use Rattle.entry.specs.Named.{lettersOf}
 use Rattle.text.specs.Held.{motifsHeld, stepsHeld}
 use Rattle.text.specs.Nets.{netIn, stepsIn}
 use Rattle.text.specs.Pages.{pageOf}

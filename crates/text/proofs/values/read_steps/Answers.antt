@@ -9,7 +9,7 @@ use lib.ListN.{length}
 use Rattle.std.proofs.shelf.Tests.{lt-ltb}
 use Rattle.std.specs.declared.option.Option.the-variants.{None}
 use Rattle.book.specs.Entries.{motifNames}
-use Rattle.book.specs.Lists.{every}
+use Rattle.entry.specs.Lists.{every}
 use Rattle.net.specs.Tokens.{name, namesOver, tokensFrom}
 use Rattle.text.specs.Held.{boundsIn, motifsHeld, stepsHeld}
 use Rattle.text.proofs.Walks.{every-push, steps-name, under}

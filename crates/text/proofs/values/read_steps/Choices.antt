@@ -5,7 +5,7 @@ use lib.Dec.{ltb}
 use lib.ListN.{length}
 use Rattle.std.specs.declared.option.Option.the-variants.{None}
 use Rattle.book.specs.Entries.{motifNames}
-use Rattle.book.specs.Lists.{every}
+use Rattle.entry.specs.Lists.{every}
 use Rattle.net.specs.Tokens.{namesOver, tokensFrom}
 use Rattle.text.specs.Held.{boundsIn, motifsHeld, stepsHeld}
 use Rattle.text.specs.Nets.{ahead, stepsFrom, stepsIn}

@@ -4,7 +4,7 @@ use native.Mathlib.Omega.{arith}
 use Prim.Native.Nat.{_+_, _<_}
 use lib.ListN.{length, set, take}
 use Rattle.std.proofs.shelf.Lists.{length-take-le, take-more-set}
-use Rattle.book.specs.Rules.{linksOf}
+use Rattle.entry.specs.Rules.{linksOf}
 use Rattle.text.proofs.Walks.{links-push}
 use Rattle.text.proofs.kept.Steps.with.Needs as need
 
