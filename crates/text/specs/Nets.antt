@@ -28,7 +28,7 @@ abbrev pub lawful : Bounds → Bounds
 lawful g = unless (rangeFault (g .low) (g .high)) g
 
 abbrev pub linkOf : Bounds → ℕ → Link
-linkOf g k = record { low = g .low; high = g .high; motif = k }
+linkOf g k = record { range = record { low = g .low; high = g .high }; motif = k }
 
 -- the steps ahead of others
 abbrev pub ahead : List Link → Result (List Link) ℕ → Result (List Link) ℕ
@@ -51,5 +51,5 @@ stepsIn names w = stepsFrom names missing (netTokens w)
 
 -- the range before the first motif counts for nothing
 abbrev pub netIn : List Link → Net
-netIn [] = record { first = 0; links = [] }
-netIn (l ∷ ls) = record { first = l .motif; links = ls }
+netIn [] = record { first = 0; rest = [] }
+netIn (l ∷ ls) = record { first = l .motif; rest = ls }

@@ -32,7 +32,7 @@ pub(crate) impl Named for Rule as RuleNamed {
     ghost called = { λ r. lettersOf (r .name) };
 
     fn name(&self) -> Name {
-        self.name()
+        self.name
     }
 }
 

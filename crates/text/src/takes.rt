@@ -38,7 +38,7 @@ fn take_motif(chapter: &mut Chapter, name: &[u8], weight: u16, body: &[u8]) -> R
     ensures refused { λ r. ⌜ refusedBy r ≡ faultIn (takeMotif (pageOf (now (chapter .entry))) (now (name .entry)) weight (now (body .entry))) ⌝ }
     ensures page { λ r. ⌜ pageOf (now (chapter .exit)) ≡ pageOr (pageOf (now (chapter .entry))) (takeMotif (pageOf (now (chapter .entry))) (now (name .entry)) weight (now (body .entry))) ⌝ }
 {
-    if is_taken(chapter.book().motifs(), name) {
+    if is_taken(chapter.book.motifs(), name) {
         return Err(TextFault::NameTaken);
     }
     let Ok(name) = Name::new(name) else {
@@ -70,14 +70,14 @@ fn take_rule(chapter: &mut Chapter, name: &[u8], net: &[u8]) -> Result<(), TextF
     ensures refused { λ r. ⌜ refusedBy r ≡ faultIn (takeRule (pageOf (now (chapter .entry))) (now (name .entry)) (now (net .entry))) ⌝ }
     ensures page { λ r. ⌜ pageOf (now (chapter .exit)) ≡ pageOr (pageOf (now (chapter .entry))) (takeRule (pageOf (now (chapter .entry))) (now (name .entry)) (now (net .entry))) ⌝ }
 {
-    if is_taken(chapter.book().rules(), name) {
+    if is_taken(chapter.book.rules(), name) {
         return Err(TextFault::NameTaken);
     }
     let net_from = 3 + name.len();
     let Ok(name) = Name::new(name) else {
         unreachable()
     };
-    match read_steps(chapter.book().motifs(), net) {
+    match read_steps(chapter.book.motifs(), net) {
         Err(at) => Err(TextFault::UnknownMotif(net_from + at)),
         Ok(steps) => match chapter.add_rule(make_rule(name, steps)) {
             Ok(()) => Ok(()),
@@ -103,7 +103,7 @@ fn take_mark(chapter: &mut Chapter, name: &[u8], start: usize, end: usize) -> Re
     ensures refused { λ r. ⌜ refusedBy r ≡ faultIn (takeMark (pageOf (now (chapter .entry))) (now (name .entry)) start end) ⌝ }
     ensures page { λ r. ⌜ pageOf (now (chapter .exit)) ≡ pageOr (pageOf (now (chapter .entry))) (takeMark (pageOf (now (chapter .entry))) (now (name .entry)) start end) ⌝ }
 {
-    let Some(motif) = number_named(chapter.book().motifs(), name) else {
+    let Some(motif) = number_named(chapter.book.motifs(), name) else {
         return Err(TextFault::UnknownMotif(2));
     };
     match chapter.add_mark(Mark { motif, start, end }) {

@@ -17,7 +17,7 @@ returns-then-is-taken c =
     let h = c .args .chapter .now in
     let n = c .args .name .now in
     let b = c .args .body .now in
-    let t : taken n (motifNames (motifsIn (h .book))) ≡ true = sym (c .if-is-taken .ensures tt ∙ ap (λ ms. taken n (motifNames ms)) (c .motifs .ensures .value ∙ ap motifsIn (c .book .ensures))) in
+    let t : taken n (motifNames (motifsIn (h .book))) ≡ true = sym (c .if-is-taken .ensures tt ∙ ap (λ ms. taken n (motifNames ms)) (c .motifs .ensures .value)) in
     let k = kept (pageOf h) (pageOf h) (takeMotif (pageOf h) n (c .args .weight) b) NameTaken (motif-taken h n (c .args .weight) b t) refl in
     record { refused = k .refused; page = k .page }
 
@@ -30,7 +30,7 @@ returns-in-Ok-add-motif c =
     let b = c .args .body .now in
     let m : Motif = record { name = c .in-Ok .name; weight = v; body = c .in-Ok-read-body .body } in
     let e = c .in-Ok-add-motif .ensures tt in
-    let t : taken n (motifNames (motifsIn (h .book))) ≡ false = sym (c .if-is-taken .ensures tt ∙ ap (λ ms. taken n (motifNames ms)) (c .motifs .ensures .value ∙ ap motifsIn (c .book .ensures))) in
+    let t : taken n (motifNames (motifsIn (h .book))) ≡ false = sym (c .if-is-taken .ensures tt ∙ ap (λ ms. taken n (motifNames ms)) (c .motifs .ensures .value)) in
     let name = c .in-Ok .ensures tt .value in
     let body = ap bodyIn (c .in-Ok-read-body .ensures tt .value) in
     let q : Page = withMotif (pageOf h) (record { name = n; weight = v; body = bodyIn (bodyOf b) }) in
@@ -46,7 +46,7 @@ returns-in-Err c =
     let b = c .args .body .now in
     let m : Motif = record { name = c .in-Ok .name; weight = v; body = c .in-Ok-read-body .body } in
     let e = c .in-Err .ensures tt in
-    let t : taken n (motifNames (motifsIn (h .book))) ≡ false = sym (c .if-is-taken .ensures tt ∙ ap (λ ms. taken n (motifNames ms)) (c .motifs .ensures .value ∙ ap motifsIn (c .book .ensures))) in
+    let t : taken n (motifNames (motifsIn (h .book))) ≡ false = sym (c .if-is-taken .ensures tt ∙ ap (λ ms. taken n (motifNames ms)) (c .motifs .ensures .value)) in
     let name = c .in-Ok .ensures tt .value in
     let body = ap bodyIn (c .in-Ok-read-body .ensures tt .value) in
     let q : Page = withMotif (pageOf h) (record { name = n; weight = v; body = bodyIn (bodyOf b) }) in
