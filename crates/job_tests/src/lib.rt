@@ -1,0 +1,5 @@
+// What the reader takes and refuses, as tables: a case, its job, and the verdict that is wanted.
+#[cfg(test)]
+mod verdict;
+#[cfg(test)]
+mod words;
