@@ -11,6 +11,9 @@ use text::take_line;
 
 use crate::fault::JobFault;
 
+// The bytes of a job, at most.
+const LONGEST: usize = 60_000;
+
 // Takes a line into the chapter; an empty one brings nothing.
 fn take_next(chapter: &mut Chapter, line: &[u8]) -> Result<(), TextFault>
     ensures refused { λ r. ⌜ refusedBy r ≡ faultIn (lineRead (pageOf (now (chapter .entry))) (now (line .entry))) ⌝ }
@@ -27,7 +30,7 @@ pub fn read_job(job: &[u8], chapter: &mut Chapter) -> Result<(), JobFault>
     ensures refused { λ r. ⌜ refusedBy r ≡ readJob (pageOf (now (chapter .entry))) (now (job .entry)) .fault ⌝ }
     ensures page { λ r. ⌜ pageOf (now (chapter .exit)) ≡ readJob (pageOf (now (chapter .entry))) (now (job .entry)) .page ⌝ }
 {
-    if job.len() > 60_000 {
+    if job.len() > LONGEST {
         return Err(JobFault {
             line: 0,
             fault: TextFault::JobTooLong,

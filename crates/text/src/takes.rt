@@ -32,6 +32,9 @@ use crate::names::number_named;
 use crate::values::read_codes;
 use crate::values::read_steps;
 
+// The bytes of a line, at most.
+const LONGEST: usize = 200;
+
 fn take_motif(chapter: &mut Chapter, name: &[u8], weight: u16, body: &[u8]) -> Result<(), TextFault>
     requires named { ⌜ isName (now name) ≡ true ⌝ }
     requires few { ⌜ refusedBy (bodyOf (now body)) ≡ None ⌝ }
@@ -117,7 +120,7 @@ pub fn take_line(chapter: &mut Chapter, line: &[u8]) -> Result<(), TextFault>
     ensures refused { λ r. ⌜ refusedBy r ≡ faultIn (takeLine (pageOf (now (chapter .entry))) (now (line .entry))) ⌝ }
     ensures page { λ r. ⌜ pageOf (now (chapter .exit)) ≡ pageOr (pageOf (now (chapter .entry))) (takeLine (pageOf (now (chapter .entry))) (now (line .entry))) ⌝ }
 {
-    if line.len() > 200 {
+    if line.len() > LONGEST {
         return Err(TextFault::LineTooLong);
     }
     match read_line(line)? {
