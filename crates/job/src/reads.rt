@@ -4,11 +4,15 @@ ghost use Rattle.job.specs.Jobs.{lineRead, readJob};
 ghost use Rattle.refusal.specs.Checks.{refusedBy};
 ghost use Rattle.text.specs.Pages.{pageOf};
 ghost use Rattle.text.specs.Taking.{faultIn, pageOr};
-use crate::fault::JobFault;
 use book::Chapter;
 use parts::part_end;
 use text::TextFault;
 use text::take_line;
+
+use crate::fault::JobFault;
+
+// The bytes of a job, at most.
+const LONGEST: usize = 60_000;
 
 // Takes a line into the chapter; an empty one brings nothing.
 fn take_next(chapter: &mut Chapter, line: &[u8]) -> Result<(), TextFault>
@@ -26,7 +30,7 @@ pub fn read_job(job: &[u8], chapter: &mut Chapter) -> Result<(), JobFault>
     ensures refused { λ r. ⌜ refusedBy r ≡ readJob (pageOf (now (chapter .entry))) (now (job .entry)) .fault ⌝ }
     ensures page { λ r. ⌜ pageOf (now (chapter .exit)) ≡ readJob (pageOf (now (chapter .entry))) (now (job .entry)) .page ⌝ }
 {
-    if job.len() > 60_000 {
+    if job.len() > LONGEST {
         return Err(JobFault {
             line: 0,
             fault: TextFault::JobTooLong,

@@ -32,7 +32,7 @@ some-word (r then s) e = refl
 some-word (r or s) e = refl
 some-word (many r) e = refl
 
-pub never-has : (w : List ℕ) → has never w ≡ false
+never-has : (w : List ℕ) → has never w ≡ false
 never-has [] = refl
 never-has (b ∷ w) = never-has w
 

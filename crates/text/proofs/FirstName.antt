@@ -20,7 +20,6 @@ use Rattle.shape.specs.Shape.{Shape, never}
 use Rattle.shape.specs.declared.kinds.Kind.{Kind}
 use Rattle.shape.specs.declared.kinds.Kind.the-variants.{Letter}
 use Rattle.shape.proofs.Same.{each-kind}
-use Rattle.shape.proofs.Going.{never-has}
 use Rattle.net.specs.Tokens.{Tok, both, highOf, lowOf, name, netTokens, range, rangeOr, tokens}
 use Rattle.net.specs.declared.Bounds.{Bounds}
 use Rattle.word.specs.Numbers.{numberOf}
@@ -34,6 +33,10 @@ was s w h = by (has s w) h
     by : (t : Bool) → cond t None (Some (goes s w)) ≡ None → t ≡ true
     by true h = refl
     by false h = let z : _≡_ {A = ℕ} 0 1 = cc in absurd (omega arith)
+
+never-has : (w : List ℕ) → has never w ≡ false
+never-has [] = refl
+never-has (b ∷ w) = never-has w
 
 dead : {X : Type 0} (w : List ℕ) → has never w ≡ true → X
 dead w h = absurd (false≢true (sym (never-has w) ∙ h))

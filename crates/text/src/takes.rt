@@ -13,6 +13,15 @@ ghost use Rattle.text.specs.Nets.{netIn};
 ghost use Rattle.text.specs.Pages.{pageOf};
 ghost use Rattle.text.specs.Sound.{SoundRule};
 ghost use Rattle.text.specs.Taking.{faultIn, pageOr, takeBoxes, takeLine, takeMark, takeMotif, takeRule};
+use body::read_body;
+use book::Chapter;
+use entry::Mark;
+use entry::Motif;
+use entry::Name;
+use entry::Rule;
+use line::Line;
+use line::read_line;
+
 use crate::faults::TextFault;
 use crate::faults::TextFaultFromLine;
 use crate::kept::Steps;
@@ -22,14 +31,9 @@ use crate::names::is_taken;
 use crate::names::number_named;
 use crate::values::read_codes;
 use crate::values::read_steps;
-use body::read_body;
-use book::Chapter;
-use entry::Mark;
-use entry::Motif;
-use entry::Name;
-use entry::Rule;
-use line::Line;
-use line::read_line;
+
+// The bytes of a line, at most.
+const LONGEST: usize = 200;
 
 fn take_motif(chapter: &mut Chapter, name: &[u8], weight: u16, body: &[u8]) -> Result<(), TextFault>
     requires named { ⌜ isName (now name) ≡ true ⌝ }
@@ -58,11 +62,7 @@ fn make_rule(name: Name, steps: Steps) -> Rule
     ensures motifs { λ r. ⌜ motifsOf r ≡ motifsHeld steps ⌝ }
     ensures net { λ r. ⌜ netOf r ≡ netIn (stepsHeld steps) ⌝ }
 {
-    match Rule::new(
-        name,
-        &steps.motifs[0..steps.len],
-        &steps.ranges[1..steps.len],
-    ) {
+    match Rule::new(name, &steps.motifs[0..steps.len], &steps.ranges[1..steps.len]) {
         Ok(rule) => rule,
         Err(_) => unreachable(),
     }
@@ -120,7 +120,7 @@ pub fn take_line(chapter: &mut Chapter, line: &[u8]) -> Result<(), TextFault>
     ensures refused { λ r. ⌜ refusedBy r ≡ faultIn (takeLine (pageOf (now (chapter .entry))) (now (line .entry))) ⌝ }
     ensures page { λ r. ⌜ pageOf (now (chapter .exit)) ≡ pageOr (pageOf (now (chapter .entry))) (takeLine (pageOf (now (chapter .entry))) (now (line .entry))) ⌝ }
 {
-    if line.len() > 200 {
+    if line.len() > LONGEST {
         return Err(TextFault::LineTooLong);
     }
     match read_line(line)? {

@@ -20,7 +20,7 @@ returns-in-Err c =
     let f = c .in-Err .fault in
     let w = line-refused job i e n p part (pageOf (c .take-next .last .chapter)) f (c .in-Err .ensures tt .refused) (c .in-Err .ensures tt .page) in
     let r : Read = record { page = p; fault = Some (record { line = n + 1; fault = f }) } in
-    let all : r ≡ readJob start job = short job start r (c .if-job-gt60000 .left) (sym (w .0) ∙ c .loop-from .inv .2) in
+    let all : r ≡ readJob start job = short job start r (c .if-job-gt-LONGEST .left) (sym (w .0) ∙ c .loop-from .inv .2) in
     record { refused = ap (λ x. x .fault) all; page = w .1 ∙ ap (λ x. x .page) all }
 
 pub loop-from-again : need.loop-from-again
@@ -41,5 +41,5 @@ returns c =
     let start = pageOf (c .args .chapter .now) in
     let p = pageOf (c .loop-from .chapter) in
     let r : Read = record { page = p; fault = None } in
-    let all : r ≡ readJob start job = short job start r (c .if-job-gt60000 .left) (sym (all-read job (c .loop-from .from) (c .loop-from .line) p (c .loop-from-test .left)) ∙ c .loop-from .inv .2) in
+    let all : r ≡ readJob start job = short job start r (c .if-job-gt-LONGEST .left) (sym (all-read job (c .loop-from .from) (c .loop-from .line) p (c .loop-from-test .left)) ∙ c .loop-from .inv .2) in
     record { refused = ap (λ x. x .fault) all; page = ap (λ x. x .page) all }
