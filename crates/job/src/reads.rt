@@ -4,12 +4,11 @@ ghost use Rattle.job.specs.Jobs.{lineRead, readJob};
 ghost use Rattle.refusal.specs.Checks.{refusedBy};
 ghost use Rattle.text.specs.Pages.{pageOf};
 ghost use Rattle.text.specs.Taking.{faultIn, pageOr};
+use crate::fault::JobFault;
 use book::Chapter;
 use parts::part_end;
 use text::TextFault;
 use text::take_line;
-
-use crate::fault::JobFault;
 
 // The bytes of a job, at most.
 const LONGEST: usize = 60_000;

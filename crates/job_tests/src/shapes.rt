@@ -1,7 +1,6 @@
 // Shapes: 6, at the end of the longest beginning that can be completed.
-use std::test::*;
-
 use crate::verdict::all;
+use std::test::*;
 
 #[test]
 fn fields(rt: LibcRuntime) -> Result<(), Fail> {
@@ -60,20 +59,40 @@ fn nets(rt: LibcRuntime) -> Result<(), Fail> {
     all(
         rt.alloc(),
         &[
-            ("a name where a number is due", b"m,hy,1,45\nr,l,hy <2 x> hy", "6,line,2,10"),
+            (
+                "a name where a number is due",
+                b"m,hy,1,45\nr,l,hy <2 x> hy",
+                "6,line,2,10",
+            ),
             ("a range first", b"m,a,1,*\nr,x,<1 2> a", "6,line,2,4"),
             ("a range last", b"m,a,1,*\nr,x,a <1 2>", "6,line,2,11"),
-            ("a range and a space last", b"m,a,1,*\nr,x,a <1 2> ", "6,line,2,12"),
+            (
+                "a range and a space last",
+                b"m,a,1,*\nr,x,a <1 2> ",
+                "6,line,2,12",
+            ),
             ("two ranges", b"m,a,1,*\nr,x,a <1 2> <3 4> a", "6,line,2,12"),
             ("no space before", b"m,a,1,*\nr,x,a<1 2> a", "6,line,2,5"),
             ("no space behind", b"m,a,1,*\nr,x,a <1 2>a", "6,line,2,11"),
             ("one number", b"m,a,1,*\nr,x,a <1> a", "6,line,2,8"),
             ("three numbers", b"m,a,1,*\nr,x,a <1 2 3> a", "6,line,2,10"),
-            ("a space behind the bracket", b"m,a,1,*\nr,x,a < 1 2> a", "6,line,2,7"),
-            ("a space before the bracket", b"m,a,1,*\nr,x,a <1 2 > a", "6,line,2,10"),
+            (
+                "a space behind the bracket",
+                b"m,a,1,*\nr,x,a < 1 2> a",
+                "6,line,2,7",
+            ),
+            (
+                "a space before the bracket",
+                b"m,a,1,*\nr,x,a <1 2 > a",
+                "6,line,2,10",
+            ),
             ("not closed", b"m,a,1,*\nr,x,a <1 2 a", "6,line,2,10"),
             ("cut off", b"m,a,1,*\nr,x,a <1", "6,line,2,8"),
-            ("before the 7 to its left", b"m,a,1,*\nr,x,a <5 2> a ", "6,line,2,14"),
+            (
+                "before the 7 to its left",
+                b"m,a,1,*\nr,x,a <5 2> a ",
+                "6,line,2,14",
+            ),
         ],
     )
 }

@@ -13,15 +13,6 @@ ghost use Rattle.text.specs.Nets.{netIn};
 ghost use Rattle.text.specs.Pages.{pageOf};
 ghost use Rattle.text.specs.Sound.{SoundRule};
 ghost use Rattle.text.specs.Taking.{faultIn, pageOr, takeBoxes, takeLine, takeMark, takeMotif, takeRule};
-use body::read_body;
-use book::Chapter;
-use entry::Mark;
-use entry::Motif;
-use entry::Name;
-use entry::Rule;
-use line::Line;
-use line::read_line;
-
 use crate::faults::TextFault;
 use crate::faults::TextFaultFromLine;
 use crate::kept::Steps;
@@ -31,6 +22,14 @@ use crate::names::is_taken;
 use crate::names::number_named;
 use crate::values::read_codes;
 use crate::values::read_steps;
+use body::read_body;
+use book::Chapter;
+use entry::Mark;
+use entry::Motif;
+use entry::Name;
+use entry::Rule;
+use line::Line;
+use line::read_line;
 
 // The bytes of a line, at most.
 const LONGEST: usize = 200;
@@ -62,7 +61,11 @@ fn make_rule(name: Name, steps: Steps) -> Rule
     ensures motifs { λ r. ⌜ motifsOf r ≡ motifsHeld steps ⌝ }
     ensures net { λ r. ⌜ netOf r ≡ netIn (stepsHeld steps) ⌝ }
 {
-    match Rule::new(name, &steps.motifs[0..steps.len], &steps.ranges[1..steps.len]) {
+    match Rule::new(
+        name,
+        &steps.motifs[0..steps.len],
+        &steps.ranges[1..steps.len],
+    ) {
         Ok(rule) => rule,
         Err(_) => unreachable(),
     }

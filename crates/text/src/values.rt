@@ -14,6 +14,10 @@ ghost use Rattle.std.specs.Vec.{made};
 ghost use Rattle.text.specs.Held.{boundsIn, codesHeld, motifsHeld, stepsHeld, stepsOr};
 ghost use Rattle.text.specs.Nets.{lawful, linkOf, missing, stepsIn};
 ghost use Rattle.text.specs.Taking.{codesIn};
+use crate::kept::Codes;
+use crate::kept::Steps;
+use crate::names::MotifNamed;
+use crate::names::number_named;
 use entry::Motif;
 use entry::Range;
 use net::Bounds;
@@ -21,11 +25,6 @@ use net::NetReader;
 use net::Token;
 use parts::part_end;
 use word::read_code;
-
-use crate::kept::Codes;
-use crate::kept::Steps;
-use crate::names::MotifNamed;
-use crate::names::number_named;
 
 impl Codes {
     fn none() -> Codes
