@@ -29,7 +29,7 @@ was-refused p q (Ok x) f e h = let z : _≡_ {A = ℕ} 0 1 = cc in absurd (omega
 was-refused p q (Err x) f e h = (cc, h)
 
 -- of a line that was taken only its page counts
-forgets : (n : ℕ) (p q : Page) (ls : List (List ℕ)) → readOn n q (Ok q) ls ≡ readOn n p (Ok q) ls
+pub forgets : (n : ℕ) (p q : Page) (ls : List (List ℕ)) → readOn n q (Ok q) ls ≡ readOn n p (Ok q) ls
 forgets n p q [] = refl
 forgets n p q (l ∷ ls) = refl
 

@@ -1,1 +1,3 @@
 pub mod Jobs
+pub mod Laws
+pub mod Examples

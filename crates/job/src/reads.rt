@@ -1,14 +1,17 @@
 ghost use lib.ListN.{length};
 ghost use mathlib.Core.Path.{_≡_};
+ghost use Rattle.job.specs.Examples.{Worked-jobs};
 ghost use Rattle.job.specs.Jobs.{lineRead, readJob};
+ghost use Rattle.job.specs.Laws.{Reading-laws};
 ghost use Rattle.refusal.specs.Checks.{refusedBy};
 ghost use Rattle.text.specs.Pages.{pageOf};
 ghost use Rattle.text.specs.Taking.{faultIn, pageOr};
-use crate::fault::JobFault;
 use book::Chapter;
 use parts::part_end;
 use text::TextFault;
 use text::take_line;
+
+use crate::fault::JobFault;
 
 // The bytes of a job, at most.
 const LONGEST: usize = 60_000;
@@ -47,4 +50,18 @@ pub fn read_job(job: &[u8], chapter: &mut Chapter) -> Result<(), JobFault>
         from = to + 1;
     }
     Ok(())
+}
+
+// The worked jobs are read as they say.
+pub fn examples_stand() -> u8
+    ensures { λ _. ⌜ Worked-jobs ⌝ }
+{
+    0
+}
+
+// Where a job is refused, and what it leaves.
+pub fn laws_stand() -> u8
+    ensures { λ _. ⌜ Reading-laws ⌝ }
+{
+    0
 }
