@@ -6,12 +6,11 @@ ghost use Rattle.job.specs.Laws.{Reading-laws};
 ghost use Rattle.refusal.specs.Checks.{refusedBy};
 ghost use Rattle.text.specs.Pages.{pageOf};
 ghost use Rattle.text.specs.Taking.{faultIn, pageOr};
+use crate::fault::JobFault;
 use book::Chapter;
 use parts::part_end;
 use text::TextFault;
 use text::take_line;
-
-use crate::fault::JobFault;
 
 // The bytes of a job, at most.
 const LONGEST: usize = 60_000;
