@@ -15,3 +15,4 @@ pub use self::limits::Limits;
 pub use self::numbers::read_code;
 pub use self::numbers::read_number;
 pub use self::numbers::read_place;
+pub use self::runs::runs_stand;

@@ -8,6 +8,7 @@ ghost use Rattle.entry.specs.Names.{isName};
 ghost use Rattle.shape.specs.Kinds.{isAnyLetter, isNumeral};
 ghost use Rattle.std.specs.Holes.{between};
 ghost use Rattle.std.specs.Options.{Cases};
+ghost use Rattle.word.specs.Longest.{Runs-law};
 ghost use Rattle.word.specs.Numbers.{isNumber};
 ghost use Rattle.word.specs.Runs.{firstFault, front};
 use crate::limits::Limits;
@@ -103,4 +104,11 @@ pub(crate) impl Sort for NumberWords as NumberWordsSort {
     fn is_sound(&self, run: &[u8]) -> bool {
         read_number(run, self.limits).is_some()
     }
+}
+
+// The first fault is that of the first longest run that is not sound, and there is none where all of them are.
+pub fn runs_stand() -> u8
+    ensures { λ _. ⌜ Runs-law ⌝ }
+{
+    0
 }
