@@ -1,12 +1,10 @@
--- Numbers as the lines of a job write them, and what the reader makes of one.
+-- Numbers as the lines of a job write them.
 use mathlib.Core.List.{List}
-use mathlib.Core.Path.{_≡_}
 use Prim.Native.Nat.{ℕ}
 use lib.IntN.{ℤ}
 use lib.Signed.{_≤ℤ_}
 use Rattle.std.specs.Written.{signed}
-use Rattle.std.specs.declared.option.Option.the-variants.{Some}
-use Rattle.word.specs.Numbers.{highest, lowest, numberOf}
+use Rattle.word.specs.Numbers.{highest, lowest}
 use Rattle.word.specs.declared.limits.Limits.{Limits}
 
 -- `wordOf z`       the word of a number: its decimal digits without a leading zero, and a minus before them where it is below 0
@@ -16,10 +14,3 @@ wordOf z = signed z
 -- `Keeps m z`      the number keeps the limits
 abbrev pub Keeps : Limits → ℤ → Type 0
 Keeps m z = (lowest m ≤ℤ z) × (z ≤ℤ highest m)
-
--- a number that keeps its limits is read back from its word
-abbrev pub Back : Type 0
-Back = (m : Limits) (z : ℤ) → Keeps m z → numberOf m (wordOf z) ≡ Some z
-
-pub record Numerals : Type 0 where
-  pub back : Back
