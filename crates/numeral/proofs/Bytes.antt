@@ -42,13 +42,14 @@ pub word-some : (z : ℤ) → mag z < 2 ^ 63 → 0 < length (wordOf z)
 word-some (pos n) h = decimal-some n (omega arith)
 word-some (negsuc n) h = omega arith
 
--- a byte of another sort is none of them
-pub other : (b c : ℕ) → isNumeral b ≡ true → isNumeral c ≡ false → eqb b c ≡ false
-other b c h o = ne-eqb b c (λ e. both-ways (isNumeral c) o (ap isNumeral (sym e) ∙ h))
+-- a byte that fails a test is none of those that pass it
+module _ (test : ℕ → Bool) where
+  pub other : (b c : ℕ) → test b ≡ true → test c ≡ false → eqb b c ≡ false
+  other b c h o = ne-eqb b c (λ e. both-ways (test c) o (ap test (sym e) ∙ h))
 
-pub plain-lacks : (c : ℕ) (w : List ℕ) → isNumeral c ≡ false → Plain w → Lacks c w
-plain-lacks c [] o h = tt
-plain-lacks c (b ∷ w) o h = (other b c (plain-first b w h) o, plain-lacks c w o (plain-rest b w h))
+  pub every-lacks : (c : ℕ) (w : List ℕ) → test c ≡ false → every test w ≡ true → Lacks c w
+  every-lacks c [] o h = tt
+  every-lacks c (b ∷ w) o h = let k = and-parts (test b) (every test w) h in (other b c (k .0) o, every-lacks c w o (k .1))
 
 pub lacks-tally : (c : ℕ) (w : List ℕ) → Lacks c w → tally c w ≡ 0
 lacks-tally c [] h = refl

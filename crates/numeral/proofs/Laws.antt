@@ -11,10 +11,9 @@ use Rattle.shape.specs.Kinds.{isNumeral}
 use Rattle.parts.proofs.Cuts.{Lacks}
 use Rattle.word.specs.Numbers.{isNumber}
 use Rattle.word.specs.declared.limits.Limits.{Limits}
-use Rattle.numeral.specs.Joined.{wordsOf}
 use Rattle.numeral.specs.Laws.{AllShaped, AllSound, NoOther, NotEmpty, Only, Parted, Shaped, Sound}
-use Rattle.numeral.specs.Numerals.{Keeps, wordOf}
-use Rattle.numeral.proofs.Bytes.{lacks-tally, plain-lacks, word-plain, word-some}
+use Rattle.numeral.specs.Numerals.{Keeps, wordOf, wordsOf}
+use Rattle.numeral.proofs.Bytes.{every-lacks, lacks-tally, word-plain, word-some}
 use Rattle.numeral.proofs.Parting as parting
 use Rattle.numeral.proofs.Shapes as shapes
 use Rattle.numeral.proofs.Sounds as sounds
@@ -30,7 +29,7 @@ pub only : Only
 only m z k = word-plain z (near m z k)
 
 pub no-other : NoOther
-no-other m z b k o = lacks-tally b (wordOf z) (plain-lacks b (wordOf z) o (only m z k))
+no-other m z b k o = lacks-tally b (wordOf z) (every-lacks isNumeral b (wordOf z) o (only m z k))
 
 whole : (m : Limits) (z : ℤ) → Keeps m z → shapes.Whole (wordOf z)
 whole m z k = (only m z k, not-empty m z k)
@@ -38,11 +37,11 @@ whole m z k = (only m z k, not-empty m z k)
 good : (m : Limits) (z : ℤ) → Keeps m z → sounds.Good isNumeral (isNumber m) refl (wordOf z)
 good m z k = (only m z k, sound m z k)
 
-lacks : (c : ℕ) → isNumeral c ≡ false → (m : Limits) (z : ℤ) → Keeps m z → Lacks c (wordOf z)
-lacks c o m z k = plain-lacks c (wordOf z) o (only m z k)
+pub lacks : (c : ℕ) → isNumeral c ≡ false → (m : Limits) (z : ℤ) → Keeps m z → Lacks c (wordOf z)
+lacks c o m z k = every-lacks isNumeral c (wordOf z) o (only m z k)
 
 -- what holds of the word of each number holds of all words
-each : (P : List ℕ → Type 0) (m : Limits) → ((z : ℤ) → Keeps m z → P (wordOf z)) → (zs : List ℤ) → All (Keeps m) zs → All P (wordsOf zs)
+pub each : (P : List ℕ → Type 0) (m : Limits) → ((z : ℤ) → Keeps m z → P (wordOf z)) → (zs : List ℤ) → All (Keeps m) zs → All P (wordsOf zs)
 each P m h [] a = tt
 each P m h (z ∷ zs) a = (h z (a .0), each P m h zs (a .1))
 
@@ -50,7 +49,7 @@ pub shaped : Shaped
 shaped m z k = shapes.shaped (wordOf z) (whole m z k)
 
 pub parted : Parted
-parted m z zs a = parting.parted (wordOf z) (wordsOf zs) (lacks 32 refl m z (a .0)) (each (Lacks 32) m (lacks 32 refl m) zs (a .1))
+parted m z zs a = parting.parted 32 (wordOf z) (wordsOf zs) (lacks 32 refl m z (a .0)) (each (Lacks 32) m (lacks 32 refl m) zs (a .1))
 
 pub all-sound : AllSound
 all-sound m z zs a = sounds.joined-sound isNumeral (isNumber m) refl (wordOf z) (wordsOf zs) (good m z (a .0)) (each (sounds.Good isNumeral (isNumber m) refl) m (good m) zs (a .1))

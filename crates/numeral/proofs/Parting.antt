@@ -1,13 +1,35 @@
--- Joined words, parted at their spaces.
+-- Joined texts, parted at the bytes between them.
 use mathlib.Core.Path.{_≡_, refl, sym, _∙_, ap}
+use mathlib.Core.Bool.{false, cond}
 use mathlib.Core.List.{List, [], _∷_, _++_}
-use Prim.Native.Nat.{ℕ}
+use Prim.Native.Nat.{ℕ, _+_}
+use native.Mathlib.Omega.{arith}
+use lib.Dec.{eqb}
+use lib.ListN.{length}
 use Rattle.std.proofs.shelf.Lists.{append-nil}
 use Rattle.std.specs.shelf.Lists.{All}
-use Rattle.parts.specs.Parts.{parts}
+use Rattle.parts.specs.Parts.{parts, tally}
 use Rattle.parts.proofs.Cuts.{Lacks, parts-first, parts-last}
-use Rattle.numeral.specs.Joined.{spaced}
+use Rattle.parts.proofs.Tallies.{length-parts}
+use Rattle.numeral.specs.Joined.{behind}
 
-pub parted : (w : List ℕ) (ws : List (List ℕ)) → Lacks 32 w → All (Lacks 32) ws → parts 32 (w ++ spaced ws) ≡ w ∷ ws
-parted w [] h a = ap (parts 32) (append-nil w) ∙ parts-last 32 w h
-parted w (v ∷ vs) h a = parts-first 32 w (v ++ spaced vs) h ∙ ap (λ x. w ∷ x) (parted v vs (a .0) (a .1))
+module _ (b : ℕ) where
+  pub parted : (w : List ℕ) (ws : List (List ℕ)) → Lacks b w → All (Lacks b) ws → parts b (w ++ behind b ws) ≡ w ∷ ws
+  parted w [] h a = ap (parts b) (append-nil w) ∙ parts-last b w h
+  parted w (v ∷ vs) h a = parts-first b w (v ++ behind b vs) h ∙ ap (λ x. w ∷ x) (parted v vs (a .0) (a .1))
+
+  pub joined-tally : (w : List ℕ) (ws : List (List ℕ)) → Lacks b w → All (Lacks b) ws → tally b (w ++ behind b ws) ≡ length ws
+  joined-tally w ws h a = omega (arith, length-parts b (w ++ behind b ws), ap length (parted w ws h a))
+
+-- a byte that stands in none of them, and is not the one between them
+module _ (c b : ℕ) (o : eqb b c ≡ false) where
+  append-lacks : (u v : List ℕ) → Lacks c u → Lacks c v → Lacks c (u ++ v)
+  append-lacks [] v h k = k
+  append-lacks (x ∷ u) v h k = (h .0, append-lacks u v (h .1) k)
+
+  behind-lacks : (ws : List (List ℕ)) → All (Lacks c) ws → Lacks c (behind b ws)
+  behind-lacks [] a = tt
+  behind-lacks (w ∷ ws) a = (o, append-lacks w (behind b ws) (a .0) (behind-lacks ws (a .1)))
+
+  pub joined-lacks : (w : List ℕ) (ws : List (List ℕ)) → Lacks c w → All (Lacks c) ws → Lacks c (w ++ behind b ws)
+  joined-lacks w ws h a = append-lacks w (behind b ws) h (behind-lacks ws a)

@@ -15,18 +15,18 @@ use Rattle.shape.specs.Kinds.{isAnyLetter, isNumeral, kindOf}
 use Rattle.shape.specs.Shape.{Shape, one, _then_, _or_, many}
 use Rattle.shape.specs.Grammar.{codes, numeral}
 use Rattle.shape.specs.Follow.{after, goes, has, misfit}
-use Rattle.numeral.specs.Joined.{spaced}
+use Rattle.numeral.specs.Joined.{behind}
 use Rattle.numeral.proofs.Bytes.{Plain, other, plain-first, plain-rest}
 
 kind-numeral : (b : ℕ) → isNumeral b ≡ true → kindOf b ≡ Numeral
 kind-numeral b h i =
-    cond (other b 32 h refl i) Space
-    (cond (other b 42 h refl i) Star
-    (cond (other b 46 h refl i) Dot
-    (cond (other b 91 h refl i) Open
-    (cond (other b 93 h refl i) Shut
-    (cond (other b 60 h refl i) Less
-    (cond (other b 62 h refl i) More
+    cond (other isNumeral b 32 h refl i) Space
+    (cond (other isNumeral b 42 h refl i) Star
+    (cond (other isNumeral b 46 h refl i) Dot
+    (cond (other isNumeral b 91 h refl i) Open
+    (cond (other isNumeral b 93 h refl i) Shut
+    (cond (other isNumeral b 60 h refl i) Less
+    (cond (other isNumeral b 62 h refl i) More
     (cond (h i) Numeral
     (cond (isAnyLetter b) Letter Other))))))))
 
@@ -65,9 +65,9 @@ pub shaped : (w : List ℕ) → Whole w → misfit numeral w ≡ None
 shaped [] h = absurd (omega (arith, h .1))
 shaped (b ∷ w) h = fits numeral (b ∷ w) (turn numeral digits b w (plain-first b w (h .0)) refl ∙ all-digits w (plain-rest b w (h .0)))
 
-first : (w : List ℕ) (ws : List (List ℕ)) → Whole w → All Whole ws → has codes (w ++ spaced ws) ≡ true
+first : (w : List ℕ) (ws : List (List ℕ)) → Whole w → All Whole ws → has codes (w ++ behind 32 ws) ≡ true
 first w [] h a = due codes inCode w [] refl refl (h .0) (h .1)
-first w (v ∷ vs) h a = due codes inCode w (spaced (v ∷ vs)) refl refl (h .0) (h .1) ∙ first v vs (a .0) (a .1)
+first w (v ∷ vs) h a = due codes inCode w (behind 32 (v ∷ vs)) refl refl (h .0) (h .1) ∙ first v vs (a .0) (a .1)
 
-pub joined-shaped : (w : List ℕ) (ws : List (List ℕ)) → Whole w → All Whole ws → misfit codes (w ++ spaced ws) ≡ None
-joined-shaped w ws h a = fits codes (w ++ spaced ws) (first w ws h a)
+pub joined-shaped : (w : List ℕ) (ws : List (List ℕ)) → Whole w → All Whole ws → misfit codes (w ++ behind 32 ws) ≡ None
+joined-shaped w ws h a = fits codes (w ++ behind 32 ws) (first w ws h a)

@@ -11,7 +11,7 @@ use Rattle.std.specs.declared.option.Option.the-variants.{Some, None}
 use Rattle.refusal.specs.Checks.{refuse}
 use Rattle.entry.specs.Lists.{every}
 use Rattle.word.specs.Runs.{faultFrom, firstFault, front}
-use Rattle.numeral.specs.Joined.{spaced}
+use Rattle.numeral.specs.Joined.{behind}
 
 module _ (part : ℕ → Bool) (sound : List ℕ → Bool) (gap : part 32 ≡ false) where
   -- a word of bytes of the sort, which is sound
@@ -22,9 +22,9 @@ module _ (part : ℕ → Bool) (sound : List ℕ → Bool) (gap : part 32 ≡ fa
   abbrev Clean : List ℕ → Type 0
   Clean v = (at : ℕ) → faultFrom part sound at true v ≡ None
 
-  front-spaced : (ws : List (List ℕ)) → front part (spaced ws) ≡ []
+  front-spaced : (ws : List (List ℕ)) → front part (behind 32 ws) ≡ []
   front-spaced [] = refl
-  front-spaced (w ∷ ws) = ap (λ t. cond t (32 ∷ front part (w ++ spaced ws)) []) gap
+  front-spaced (w ∷ ws) = ap (λ t. cond t (32 ∷ front part (w ++ behind 32 ws)) []) gap
 
   front-word : (w v : List ℕ) → every part w ≡ true → front part v ≡ [] → front part (w ++ v) ≡ w
   front-word [] v h e = e
@@ -50,10 +50,10 @@ module _ (part : ℕ → Bool) (sound : List ℕ → Bool) (gap : part 32 ≡ fa
   step : (o : Bool) (v : List ℕ) (at : ℕ) → faultFrom part sound (at + 1) false v ≡ None → faultFrom part sound at o (32 ∷ v) ≡ None
   step o v at n = ap (λ t. refuse ((t && not o) && not (sound (front part (32 ∷ v)))) at (faultFrom part sound (at + 1) t v)) gap ∙ n
 
-  spaced-clean : (ws : List (List ℕ)) → All Good ws → (o : Bool) (at : ℕ) → faultFrom part sound at o (spaced ws) ≡ None
+  spaced-clean : (ws : List (List ℕ)) → All Good ws → (o : Bool) (at : ℕ) → faultFrom part sound at o (behind 32 ws) ≡ None
   spaced-clean [] a o at = refl
   spaced-clean (w ∷ ws) a o at =
-      step o (w ++ spaced ws) at (begun w (spaced ws) (at + 1) (a .0) (front-spaced ws) (spaced-clean ws (a .1) true) (spaced-clean ws (a .1) false (at + 1)))
+      step o (w ++ behind 32 ws) at (begun w (behind 32 ws) (at + 1) (a .0) (front-spaced ws) (spaced-clean ws (a .1) true) (spaced-clean ws (a .1) false (at + 1)))
 
-  pub joined-sound : (w : List ℕ) (ws : List (List ℕ)) → Good w → All Good ws → firstFault part sound (w ++ spaced ws) ≡ None
-  joined-sound w ws g a = begun w (spaced ws) 0 g (front-spaced ws) (spaced-clean ws a true) (spaced-clean ws a false 0)
+  pub joined-sound : (w : List ℕ) (ws : List (List ℕ)) → Good w → All Good ws → firstFault part sound (w ++ behind 32 ws) ≡ None
+  joined-sound w ws g a = begun w (behind 32 ws) 0 g (front-spaced ws) (spaced-clean ws a true) (spaced-clean ws a false 0)

@@ -1,19 +1,13 @@
--- Words joined with one space between each two.
-use mathlib.Core.List.{List, [], _∷_, _++_, map}
+-- Texts joined with one byte between each two: words with spaces, fields with commas.
+use mathlib.Core.List.{List, [], _∷_, _++_}
 use Prim.Native.Nat.{ℕ}
-use lib.IntN.{ℤ}
-use Rattle.numeral.specs.Numerals.{wordOf}
 
--- `spaced ws`      the words, each behind a space
-abbrev pub spaced : List (List ℕ) → List ℕ
-spaced [] = []
-spaced (w ∷ ws) = 32 ∷ (w ++ spaced ws)
+-- `behind b ws`    the texts, each behind a byte b
+abbrev pub behind : ℕ → List (List ℕ) → List ℕ
+behind b [] = []
+behind b (w ∷ ws) = b ∷ (w ++ behind b ws)
 
--- `joined ws`      the words, with one space between each two
-abbrev pub joined : List (List ℕ) → List ℕ
-joined [] = []
-joined (w ∷ ws) = w ++ spaced ws
-
--- `wordsOf zs`     the words of numbers
-abbrev pub wordsOf : List ℤ → List (List ℕ)
-wordsOf zs = map wordOf zs
+-- `joined b ws`    the texts, with one byte b between each two
+abbrev pub joined : ℕ → List (List ℕ) → List ℕ
+joined b [] = []
+joined b (w ∷ ws) = w ++ behind b ws

@@ -15,8 +15,7 @@ use Rattle.parts.specs.Parts.{parts, tally}
 use Rattle.word.specs.Numbers.{isNumber, numberOf}
 use Rattle.word.specs.Runs.{firstFault}
 use Rattle.word.specs.declared.limits.Limits.{Limits}
-use Rattle.numeral.specs.Joined.{joined, wordsOf}
-use Rattle.numeral.specs.Numerals.{Keeps, wordOf}
+use Rattle.numeral.specs.Numerals.{Keeps, numbers, wordOf, wordsOf}
 
 -- a number that keeps its limits is read back from its word
 abbrev pub Back : Type 0
@@ -44,14 +43,14 @@ OfSome P = (m : Limits) (z : ℤ) (zs : List ℤ) → All (Keeps m) (z ∷ zs) �
 
 -- the parts at spaces are the words again
 abbrev pub Parted : Type 0
-Parted = OfSome (λ m zs. parts 32 (joined (wordsOf zs)) ≡ wordsOf zs)
+Parted = OfSome (λ m zs. parts 32 (numbers zs) ≡ wordsOf zs)
 
 -- every run of digits and minus signs is one of the numbers
 abbrev pub AllSound : Type 0
-AllSound = OfSome (λ m zs. firstFault isNumeral (isNumber m) (joined (wordsOf zs)) ≡ None)
+AllSound = OfSome (λ m zs. firstFault isNumeral (isNumber m) (numbers zs) ≡ None)
 
 abbrev pub AllShaped : Type 0
-AllShaped = OfSome (λ m zs. misfit codes (joined (wordsOf zs)) ≡ None)
+AllShaped = OfSome (λ m zs. misfit codes (numbers zs) ≡ None)
 
 pub record Numerals : Type 0 where
   pub back : Back

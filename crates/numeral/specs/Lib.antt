@@ -1,3 +1,4 @@
-pub mod Numerals
 pub mod Joined
+pub mod Numerals
 pub mod Laws
+pub mod Lines

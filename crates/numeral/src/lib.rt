@@ -1,9 +1,17 @@
-// How the numbers of a job are written, and that the reader takes them back.
+// How the numbers and lines of a job are written, and that the reader takes them back.
 ghost use Rattle.numeral.specs.Laws.{Numerals};
+ghost use Rattle.numeral.specs.Lines.{Lines};
 
 // A number that keeps its limits is read back from its word.
 pub fn numerals_stand() -> u8
     ensures { λ _. ⌜ Numerals ⌝ }
+{
+    0
+}
+
+// Lines of boxes and of marks are read back, and taken where there is room.
+pub fn lines_stand() -> u8
+    ensures { λ _. ⌜ Lines ⌝ }
 {
     0
 }
