@@ -31,10 +31,10 @@ only m z k = word-plain z (near m z k)
 pub no-other : NoOther
 no-other m z b k o = lacks-tally b (wordOf z) (every-lacks isNumeral b (wordOf z) o (only m z k))
 
-whole : (m : Limits) (z : ℤ) → Keeps m z → shapes.Whole (wordOf z)
+pub whole : (m : Limits) (z : ℤ) → Keeps m z → shapes.Whole (wordOf z)
 whole m z k = (only m z k, not-empty m z k)
 
-good : (m : Limits) (z : ℤ) → Keeps m z → sounds.Good isNumeral (isNumber m) refl (wordOf z)
+pub good : (m : Limits) (z : ℤ) → Keeps m z → sounds.Good isNumeral (isNumber m) (wordOf z)
 good m z k = (only m z k, sound m z k)
 
 pub lacks : (c : ℕ) → isNumeral c ≡ false → (m : Limits) (z : ℤ) → Keeps m z → Lacks c (wordOf z)
@@ -52,7 +52,7 @@ pub parted : Parted
 parted m z zs a = parting.parted 32 (wordOf z) (wordsOf zs) (lacks 32 refl m z (a .0)) (each (Lacks 32) m (lacks 32 refl m) zs (a .1))
 
 pub all-sound : AllSound
-all-sound m z zs a = sounds.joined-sound isNumeral (isNumber m) refl (wordOf z) (wordsOf zs) (good m z (a .0)) (each (sounds.Good isNumeral (isNumber m) refl) m (good m) zs (a .1))
+all-sound m z zs a = sounds.joined-sound isNumeral (isNumber m) refl (wordOf z) (wordsOf zs) (good m z (a .0)) (each (sounds.Good isNumeral (isNumber m)) m (good m) zs (a .1))
 
 pub all-shaped : AllShaped
 all-shaped m z zs a = shapes.joined-shaped (wordOf z) (wordsOf zs) (whole m z (a .0)) (each shapes.Whole m (whole m) zs (a .1))

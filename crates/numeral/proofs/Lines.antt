@@ -43,10 +43,10 @@ use Rattle.numeral.proofs.Words.{back}
 
 -- codes
 
-code-keeps : (n : ℕ) → n ≤ 65535 → Keeps Code (pos n)
+pub code-keeps : (n : ℕ) → n ≤ 65535 → Keeps Code (pos n)
 code-keeps n h = (omega (arith, ints), omega (arith, ints))
 
-codes-keep : (cs : List ℕ) → Codes cs → All (Keeps Code) (map pos cs)
+pub codes-keep : (cs : List ℕ) → Codes cs → All (Keeps Code) (map pos cs)
 codes-keep [] a = tt
 codes-keep (c ∷ cs) a = (code-keeps c (a .0), codes-keep cs (a .1))
 

@@ -40,11 +40,11 @@ word s [] v e h = refl
 word s (b ∷ w) v e h = turn s s b (w ++ v) (plain-first b w h) e ∙ word s w v e (plain-rest b w h)
 
 -- a whole word where one is due
-due : (s t : Shape) (w v : List ℕ) → after Numeral s ≡ t → after Numeral t ≡ t → Plain w → 0 < length w → has s (w ++ v) ≡ has t v
+pub due : (s t : Shape) (w v : List ℕ) → after Numeral s ≡ t → after Numeral t ≡ t → Plain w → 0 < length w → has s (w ++ v) ≡ has t v
 due s t [] v e f h l = absurd (omega arith)
 due s t (b ∷ w) v e f h l = turn s t b (w ++ v) (plain-first b w h) e ∙ word t w v f (plain-rest b w h)
 
-fits : (s : Shape) (w : List ℕ) → has s w ≡ true → misfit s w ≡ None
+pub fits : (s : Shape) (w : List ℕ) → has s w ≡ true → misfit s w ≡ None
 fits s w e = ap (λ t. cond t None (Some (goes s w))) e
 
 abbrev digits : Shape

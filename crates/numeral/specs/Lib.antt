@@ -2,3 +2,4 @@ pub mod Joined
 pub mod Numerals
 pub mod Laws
 pub mod Lines
+pub mod Bodies

@@ -1,4 +1,5 @@
 // How the numbers and lines of a job are written, and that the reader takes them back.
+ghost use Rattle.numeral.specs.Bodies.{Bodies};
 ghost use Rattle.numeral.specs.Laws.{Numerals};
 ghost use Rattle.numeral.specs.Lines.{Lines};
 
@@ -12,6 +13,13 @@ pub fn numerals_stand() -> u8
 // Lines of boxes and of marks are read back, and taken where there is room.
 pub fn lines_stand() -> u8
     ensures { λ _. ⌜ Lines ⌝ }
+{
+    0
+}
+
+// A written body has sound numbers and its shape.
+pub fn bodies_stand() -> u8
+    ensures { λ _. ⌜ Bodies ⌝ }
 {
     0
 }
