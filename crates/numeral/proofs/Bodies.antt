@@ -50,7 +50,7 @@ item-start : (e : Entry) (v : List ℕ) → Lawful e → Edge v → Start (itemT
 item-start (code c) v l e = codes-start (c ∷ []) v l e
 item-start any v l e = start (46 ∷ v) (byte 46 v refl (start v e))
 item-start (oneOf cs) v l e =
-    start (91 ∷ ((codesField cs ++ 93 ∷ []) ++ v)) (byte 91 ((codesField cs ++ 93 ∷ []) ++ v) refl (subst Start (sym (append-assoc (codesField cs) (93 ∷ []) v)) (codes-start cs (93 ∷ v) (l .1) (byte 93 v refl (start v e)))))
+    start (91 ∷ ((codesField cs ++ 93 ∷ []) ++ v)) (byte 91 ((codesField cs ++ 93 ∷ []) ++ v) refl (subst Start (sym (append-assoc (codesField cs) (93 ∷ []) v)) (codes-start cs (93 ∷ v) (l .2) (byte 93 v refl (start v e)))))
 
 items-edge : (es : List Entry) → All Lawful es → Edge (behind 32 (map itemText es))
 items-edge [] a = sounds.edge-end isNumeral (isNumber Code)
@@ -59,7 +59,7 @@ items-edge (e ∷ es) a = byte 32 (itemText e ++ behind 32 (map itemText es)) re
 pub body-sound : (b : Option (List Entry)) → LawfulBody b → firstFault isNumeral (isNumber Code) (bodyText b) ≡ None
 body-sound None l = refl
 body-sound (Some []) l = absurd (omega (arith, l .0))
-body-sound (Some (e ∷ es)) l = item-start e (behind 32 (map itemText es)) (l .1 .0) (items-edge es (l .1 .1)) 0
+body-sound (Some (e ∷ es)) l = item-start e (behind 32 (map itemText es)) (l .2 .0) (items-edge es (l .2 .1)) 0
 
 -- the shapes of what may follow
 
@@ -97,12 +97,12 @@ code-fits s c v l r turn = ap (λ x. has s (x ++ v)) (append-nil (wordOf (pos c)
 item-fits : (e : Entry) (v : List ℕ) → Lawful e → Follows v → has (parted item) (itemText e ++ v) ≡ true
 item-fits (code c) v l r = code-fits (parted item) c v l (r .0) (λ w h. due (parted item) inItem w v refl refl (h .0) (h .1))
 item-fits any v l r = r .1
-item-fits (oneOf cs) v l r = class-fits cs v (l .0) (l .1) (r .1)
+item-fits (oneOf cs) v l r = class-fits cs v (l .0) (l .2) (r .1)
 
 first-fits : (e : Entry) (v : List ℕ) → Lawful e → Follows v → has body (itemText e ++ v) ≡ true
 first-fits (code c) v l r = code-fits body c v l (r .0) (λ w h. due body inItem w v refl refl (h .0) (h .1))
 first-fits any v l r = r .1
-first-fits (oneOf cs) v l r = class-fits cs v (l .0) (l .1) (r .1)
+first-fits (oneOf cs) v l r = class-fits cs v (l .0) (l .2) (r .1)
 
 items-follow : (es : List Entry) → All Lawful es → Follows (behind 32 (map itemText es))
 items-follow [] a = (refl, refl)
@@ -111,4 +111,4 @@ items-follow (e ∷ es) a = let h = item-fits e (behind 32 (map itemText es)) (a
 pub body-shaped : (b : Option (List Entry)) → LawfulBody b → misfit body (bodyText b) ≡ None
 body-shaped None l = refl
 body-shaped (Some []) l = absurd (omega (arith, l .0))
-body-shaped (Some (e ∷ es)) l = fits body (itemText e ++ behind 32 (map itemText es)) (first-fits e (behind 32 (map itemText es)) (l .1 .0) (items-follow es (l .1 .1)))
+body-shaped (Some (e ∷ es)) l = fits body (itemText e ++ behind 32 (map itemText es)) (first-fits e (behind 32 (map itemText es)) (l .2 .0) (items-follow es (l .2 .1)))

@@ -21,15 +21,15 @@ module _ (b : ℕ) where
   pub joined-tally : (w : List ℕ) (ws : List (List ℕ)) → Lacks b w → All (Lacks b) ws → tally b (w ++ behind b ws) ≡ length ws
   joined-tally w ws h a = omega (arith, length-parts b (w ++ behind b ws), ap length (parted w ws h a))
 
+pub append-lacks : (c : ℕ) (u v : List ℕ) → Lacks c u → Lacks c v → Lacks c (u ++ v)
+append-lacks c [] v h k = k
+append-lacks c (x ∷ u) v h k = (h .0, append-lacks c u v (h .1) k)
+
 -- a byte that stands in none of them, and is not the one between them
 module _ (c b : ℕ) (o : eqb b c ≡ false) where
-  append-lacks : (u v : List ℕ) → Lacks c u → Lacks c v → Lacks c (u ++ v)
-  append-lacks [] v h k = k
-  append-lacks (x ∷ u) v h k = (h .0, append-lacks u v (h .1) k)
-
   behind-lacks : (ws : List (List ℕ)) → All (Lacks c) ws → Lacks c (behind b ws)
   behind-lacks [] a = tt
-  behind-lacks (w ∷ ws) a = (o, append-lacks w (behind b ws) (a .0) (behind-lacks ws (a .1)))
+  behind-lacks (w ∷ ws) a = (o, append-lacks c w (behind b ws) (a .0) (behind-lacks ws (a .1)))
 
   pub joined-lacks : (w : List ℕ) (ws : List (List ℕ)) → Lacks c w → All (Lacks c) ws → Lacks c (w ++ behind b ws)
-  joined-lacks w ws h a = append-lacks w (behind b ws) h (behind-lacks ws a)
+  joined-lacks w ws h a = append-lacks c w (behind b ws) h (behind-lacks ws a)

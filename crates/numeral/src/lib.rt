@@ -17,7 +17,7 @@ pub fn lines_stand() -> u8
     0
 }
 
-// A written body has sound numbers and its shape.
+// A written body has sound numbers and its shape, and is read back.
 pub fn bodies_stand() -> u8
     ensures { λ _. ⌜ Bodies ⌝ }
 {
