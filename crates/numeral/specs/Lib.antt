@@ -3,3 +3,4 @@ pub mod Numerals
 pub mod Laws
 pub mod Lines
 pub mod Bodies
+pub mod Motifs

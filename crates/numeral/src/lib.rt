@@ -2,6 +2,7 @@
 ghost use Rattle.numeral.specs.Bodies.{Bodies};
 ghost use Rattle.numeral.specs.Laws.{Numerals};
 ghost use Rattle.numeral.specs.Lines.{Lines};
+ghost use Rattle.numeral.specs.Motifs.{Motifs};
 
 // A number that keeps its limits is read back from its word.
 pub fn numerals_stand() -> u8
@@ -20,6 +21,13 @@ pub fn lines_stand() -> u8
 // A written body has sound numbers and its shape, and is read back.
 pub fn bodies_stand() -> u8
     ensures { λ _. ⌜ Bodies ⌝ }
+{
+    0
+}
+
+// A line of a motif is read back, and taken where its name is free and there is room.
+pub fn motifs_stand() -> u8
+    ensures { λ _. ⌜ Motifs ⌝ }
 {
     0
 }
