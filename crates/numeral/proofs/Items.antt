@@ -147,7 +147,7 @@ pub record Foreign (b : ℕ) : Type 0 where
   pub shutting : eqb 93 b ≡ false
 
 module _ (b : ℕ) (o : Foreign b) where
-  codes-lack : (cs : List ℕ) → Codes cs → Lacks b (codesField cs)
+  pub codes-lack : (cs : List ℕ) → Codes cs → Lacks b (codesField cs)
   codes-lack [] a = tt
   codes-lack (c ∷ cs) a = joined-lacks b 32 (o .space) (wordOf (pos c)) (wordsOf (map pos cs)) (code-lacks b c (o .numeral) (a .0)) (each (Lacks b) Code (lacks b (o .numeral) Code) (map pos cs) (codes-keep cs (a .1)))
 

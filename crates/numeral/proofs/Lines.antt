@@ -83,7 +83,7 @@ module _ (c : ℕ) (cs : List ℕ) (a : Codes (c ∷ cs)) where
 
 -- marks
 
-place-keeps : (n : ℕ) → n ≤ 20000 → Keeps Place (pos n)
+pub place-keeps : (n : ℕ) → n ≤ 20000 → Keeps Place (pos n)
 place-keeps n h = (omega (arith, ints), omega (arith, ints))
 
 place-back : (n : ℕ) → n ≤ 20000 → placeOf (wordOf (pos n)) ≡ n

@@ -4,3 +4,4 @@ pub mod Laws
 pub mod Lines
 pub mod Bodies
 pub mod Motifs
+pub mod Breaks

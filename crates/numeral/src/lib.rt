@@ -1,5 +1,6 @@
 // How the numbers and lines of a job are written, and that the reader takes them back.
 ghost use Rattle.numeral.specs.Bodies.{Bodies};
+ghost use Rattle.numeral.specs.Breaks.{Breaks};
 ghost use Rattle.numeral.specs.Laws.{Numerals};
 ghost use Rattle.numeral.specs.Lines.{Lines};
 ghost use Rattle.numeral.specs.Motifs.{Motifs};
@@ -28,6 +29,13 @@ pub fn bodies_stand() -> u8
 // A line of a motif is read back, and taken where its name is free and there is room.
 pub fn motifs_stand() -> u8
     ensures { λ _. ⌜ Motifs ⌝ }
+{
+    0
+}
+
+// No written line has a byte 10, so that lines are parted as they were ended.
+pub fn breaks_stand() -> u8
+    ensures { λ _. ⌜ Breaks ⌝ }
 {
     0
 }
