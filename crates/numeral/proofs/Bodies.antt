@@ -1,10 +1,10 @@
 -- Written bodies are sound and have their shape.
 use mathlib.Core.Path.{_≡_, refl, sym, _∙_, ap, subst}
-use mathlib.Core.Bool.{Bool, true, false}
+use mathlib.Core.Bool.{true, false}
 use mathlib.Core.List.{List, [], _∷_, _++_, append-assoc, map}
 use Prim.Native.Nat.{ℕ, _<_}
 use native.Mathlib.Omega.{arith}
-use lib.IntN.{ℤ, pos}
+use lib.IntN.{pos}
 use lib.ListN.{length}
 use Rattle.std.proofs.shelf.Lists.{append-nil}
 use Rattle.std.specs.shelf.Lists.{All}
@@ -14,7 +14,7 @@ use Rattle.shape.specs.declared.kinds.Kind.the-variants.{Space, Shut, Numeral}
 use Rattle.shape.specs.Follow.{has, misfit}
 use Rattle.shape.specs.Grammar.{body, codes, item, numeral, parted}
 use Rattle.shape.specs.Kinds.{isNumeral}
-use Rattle.shape.specs.Shape.{Shape, one, _then_, _or_, many}
+use Rattle.shape.specs.Shape.{Shape, one, _then_, many}
 use Rattle.word.specs.Numbers.{isNumber}
 use Rattle.word.specs.Runs.{firstFault}
 use Rattle.word.specs.declared.limits.Limits.the-variants.{Code}

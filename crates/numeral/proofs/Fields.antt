@@ -1,14 +1,14 @@
 -- A written line, parted into its fields.
-use mathlib.Core.Path.{_≡_, refl, sym, _∙_, ap}
+use mathlib.Core.Path.{_≡_, _∙_, ap}
 use mathlib.Core.Bool.{false, cond, not}
 use mathlib.Core.List.{List, [], _∷_, _++_}
-use Prim.Native.Nat.{ℕ, suc, _+_, _≤_}
+use Prim.Native.Nat.{ℕ, _+_}
 use native.Mathlib.Omega.{arith}
-use lib.Dec.{eqb, leb}
+use lib.Dec.{eqb}
 use lib.ListN.{length}
 use Rattle.std.proofs.shelf.Tests.{eq-eqb, le-leb}
 use Rattle.std.specs.shelf.Lists.{All}
-use Rattle.std.specs.declared.option.Option.the-variants.{Some, None}
+use Rattle.std.specs.declared.option.Option.the-variants.{Some}
 use Rattle.refusal.specs.Checks.{refuse}
 use Rattle.parts.specs.Parts.{parts, tally}
 use Rattle.parts.proofs.Cuts.{Lacks}
@@ -17,7 +17,7 @@ use Rattle.line.specs.Lines.{fieldsFault, kindFault, lineFault}
 use Rattle.line.specs.Said.{lineSays, saysBy}
 use Rattle.line.specs.declared.kinds.Kind.{Kind}
 use Rattle.line.specs.declared.faults.LineFault.the-variants.{WrongCommas}
-use Rattle.numeral.specs.Joined.{behind, joined}
+use Rattle.numeral.specs.Joined.{behind}
 use Rattle.numeral.specs.Lines.{lineOf}
 use Rattle.numeral.proofs.Parting.{joined-tally, parted}
 

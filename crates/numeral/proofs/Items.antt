@@ -1,11 +1,11 @@
 -- Written bodies are read back item by item.
 use mathlib.Core.Path.{_≡_, refl, sym, _∙_, ap, subst}
-use mathlib.Core.Bool.{Bool, true, false, cond, _||_}
+use mathlib.Core.Bool.{Bool, true, false, cond}
 use mathlib.Core.List.{List, [], _∷_, _++_, append-assoc, map}
 use Prim.Native.Nat.{ℕ, zero, suc, _+_, _-_, _≤_, _<_}
 use native.Mathlib.Omega.{arith}
 use lib.Dec.{eqb, leb}
-use lib.IntN.{ℤ, pos}
+use lib.IntN.{pos}
 use lib.ListN.{drop, getD, length, length-append, take}
 use Rattle.std.proofs.shelf.Lists.{append-nil, getD-append-add, take-all, take-append-le}
 use Rattle.std.proofs.shelf.Tests.{lt-leb, or-from}
@@ -19,7 +19,7 @@ use Rattle.parts.specs.Parts.{parts}
 use Rattle.parts.proofs.Cuts.{Lacks, parts-first, parts-last}
 use Rattle.word.specs.Numbers.{codeOf}
 use Rattle.word.specs.declared.limits.Limits.the-variants.{Code}
-use Rattle.body.specs.Bodies.{Reading, anItem, bodyOf, empty, full, goOn, inClass, isByte, itemsIn, opens, readFrom, shuts, withItem}
+use Rattle.body.specs.Bodies.{Reading, bodyOf, empty, full, goOn, inClass, isByte, itemsIn, opens, readFrom, shuts, withItem}
 use Rattle.body.specs.Entries.{Entry, any, code, oneOf}
 use Rattle.numeral.specs.Bodies.{Lawful, LawfulBody, bodyText, itemText}
 use Rattle.numeral.specs.Joined.{behind}

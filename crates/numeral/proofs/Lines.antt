@@ -1,24 +1,22 @@
 -- Lines of boxes and of marks are read back.
 use mathlib.Core.Path.{_≡_, refl, sym, _∙_, ap}
 use mathlib.Core.Bool.{true, false, not, _&&_}
-use mathlib.Core.List.{List, [], _∷_, _++_, map}
-use Prim.Native.Nat.{ℕ, _+_, _≤_, _<_}
+use mathlib.Core.List.{List, [], _∷_, map}
+use Prim.Native.Nat.{ℕ, _+_, _≤_}
 use native.Mathlib.Omega.{arith}
 use lib.Dec.{leb, ltb}
 use lib.IntN.{ℤ, pos}
 use lib.ListN.{length}
-use lib.Signed.{_≤ℤ_}
 use Rattle.std.proofs.shelf.Lists.{append-nil}
 use Rattle.std.proofs.shelf.Signed.{ints}
 use Rattle.std.proofs.shelf.Tests.{and-parts, le-ltb, lt-leb}
 use Rattle.std.specs.shelf.Lists.{All}
-use Rattle.std.specs.declared.option.Option.the-variants.{Some, None}
+use Rattle.std.specs.declared.option.Option.the-variants.{None}
 use Rattle.std.specs.declared.result.Result.the-variants.{Ok}
 use Rattle.refusal.specs.Checks.{refuse}
 use Rattle.entry.specs.Lists.{every}
 use Rattle.entry.specs.Names.{isLetter, isName}
 use Rattle.shape.specs.Kinds.{isNumeral}
-use Rattle.shape.specs.declared.Form.the-variants.{Number, Codes as CodesForm}
 use Rattle.parts.proofs.Cuts.{Lacks}
 use Rattle.word.specs.Faults.{raised}
 use Rattle.word.specs.Numbers.{codeOf, counted, isNumber, placeOf}
@@ -26,8 +24,7 @@ use Rattle.word.specs.Runs.{firstFault}
 use Rattle.word.specs.declared.limits.Limits.{Limits}
 use Rattle.word.specs.declared.limits.Limits.the-variants.{Code, Place}
 use Rattle.word.specs.declared.faults.WordFault.the-variants.{BadName, BadNumber}
-use Rattle.line.specs.Fields.{Placed}
-use Rattle.line.specs.Lines.{_else_, badName, badNumber, badShape, boxesFault, inWord, lineFault, markFault}
+use Rattle.line.specs.Lines.{_else_, boxesFault, inWord, lineFault, markFault}
 use Rattle.line.specs.Said.{lineSays, mark}
 use Rattle.line.specs.declared.kinds.Kind.the-variants.{Boxes, Mark}
 use Rattle.line.specs.declared.faults.LineFault.the-variants.{BadShape}

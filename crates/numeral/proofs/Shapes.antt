@@ -1,18 +1,15 @@
 -- The shapes of written numbers.
-use mathlib.Core.Path.{_≡_, refl, sym, _∙_, ap}
-use mathlib.Core.Bool.{Bool, true, false, cond}
+use mathlib.Core.Path.{_≡_, refl, _∙_, ap}
+use mathlib.Core.Bool.{true, cond}
 use mathlib.Core.List.{List, [], _∷_, _++_}
 use Prim.Native.Nat.{ℕ, _<_}
 use native.Mathlib.Omega.{arith}
-use lib.Dec.{eqb}
 use lib.ListN.{length}
 use Rattle.std.specs.shelf.Lists.{All}
-use Rattle.std.specs.declared.option.Option.{Option}
 use Rattle.std.specs.declared.option.Option.the-variants.{Some, None}
-use Rattle.shape.specs.declared.kinds.Kind.{Kind}
 use Rattle.shape.specs.declared.kinds.Kind.the-variants.{Space, Star, Dot, Open, Shut, Less, More, Numeral, Letter, Other}
 use Rattle.shape.specs.Kinds.{isAnyLetter, isNumeral, kindOf}
-use Rattle.shape.specs.Shape.{Shape, one, _then_, _or_, many}
+use Rattle.shape.specs.Shape.{Shape, one, _then_, many}
 use Rattle.shape.specs.Grammar.{codes, numeral}
 use Rattle.shape.specs.Follow.{after, goes, has, misfit}
 use Rattle.numeral.specs.Joined.{behind}

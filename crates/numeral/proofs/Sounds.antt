@@ -6,8 +6,7 @@ use Prim.Native.Nat.{ℕ, _+_}
 use Rattle.std.proofs.shelf.Lists.{append-nil}
 use Rattle.std.proofs.shelf.Tests.{and-parts}
 use Rattle.std.specs.shelf.Lists.{All}
-use Rattle.std.specs.declared.option.Option.{Option}
-use Rattle.std.specs.declared.option.Option.the-variants.{Some, None}
+use Rattle.std.specs.declared.option.Option.the-variants.{None}
 use Rattle.refusal.specs.Checks.{refuse}
 use Rattle.entry.specs.Lists.{every}
 use Rattle.word.specs.Runs.{faultFrom, firstFault, front}

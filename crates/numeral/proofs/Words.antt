@@ -1,19 +1,18 @@
 -- The word of a number is read back.
-use mathlib.Core.Path.{_≡_, refl, sym, _∙_, ap, subst}
-use mathlib.Core.Bool.{Bool, true, false, cond, _&&_}
+use mathlib.Core.Path.{_≡_, refl, sym, _∙_, ap}
+use mathlib.Core.Bool.{true, cond}
 use mathlib.Core.List.{List, [], _∷_}
-use Prim.Native.Nat.{ℕ, zero, suc, _+_, _-_, _*_, _^_, _≤_, _<_}
+use Prim.Native.Nat.{ℕ, zero, suc, _^_, _≤_, _<_}
 use native.Mathlib.Omega.{arith}
 use lib.Dec.{eqb, leb}
-use lib.IntN.{ℤ, pos, negsuc, negℤ}
-use lib.ListN.{length, getD}
-use lib.Signed.{mag, leZ, _≤ℤ_}
+use lib.IntN.{ℤ, pos, negsuc}
+use lib.ListN.{length}
+use lib.Signed.{mag}
 use Rattle.std.proofs.shelf.Decimals.{decimal-digit, decimal-some, digits-decimal, first-decimal, value-decimal}
 use Rattle.std.proofs.shelf.Numerals.{Folds, Numerals, TellsDigits, numerals-by-fold}
 use Rattle.std.proofs.shelf.Signed.{ints}
 use Rattle.std.proofs.shelf.Tests.{and-from, and-parts, both-ways, le-leb, leb-true, ne-eqb}
-use Rattle.std.specs.Written.{decimal as figures, signed}
-use Rattle.std.specs.declared.option.Option.{Option}
+use Rattle.std.specs.Written.{decimal as figures}
 use Rattle.std.specs.declared.option.Option.the-variants.{Some, None}
 use Rattle.entry.specs.Lists.{every}
 use Rattle.shape.specs.Kinds.{isDigit}
