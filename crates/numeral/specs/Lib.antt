@@ -5,3 +5,4 @@ pub mod Lines
 pub mod Bodies
 pub mod Motifs
 pub mod Breaks
+pub mod Nets

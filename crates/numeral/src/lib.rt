@@ -4,6 +4,7 @@ ghost use Rattle.numeral.specs.Breaks.{Breaks};
 ghost use Rattle.numeral.specs.Laws.{Numerals};
 ghost use Rattle.numeral.specs.Lines.{Lines};
 ghost use Rattle.numeral.specs.Motifs.{Motifs};
+ghost use Rattle.numeral.specs.Nets.{Nets};
 
 // A number that keeps its limits is read back from its word.
 pub fn numerals_stand() -> u8
@@ -36,6 +37,13 @@ pub fn motifs_stand() -> u8
 // No written line has a byte 10, so that lines are parted as they were ended.
 pub fn breaks_stand() -> u8
     ensures { λ _. ⌜ Breaks ⌝ }
+{
+    0
+}
+
+// The numbers of a written net keep their limits.
+pub fn nets_stand() -> u8
+    ensures { λ _. ⌜ Nets ⌝ }
 {
     0
 }

@@ -1,0 +1,5 @@
+use Rattle.numeral.proofs.Nets.{net-sound}
+use Rattle.numeral.proofs.nets_stand.Needs as need
+
+pub returns : need.returns
+returns c = record { net-sound = net-sound }
