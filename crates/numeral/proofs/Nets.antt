@@ -33,7 +33,7 @@ byte b v o s = sounds.edge-byte isNumeral (isNumber Shift) b v o s
 start : (v : List ℕ) → Edge v → Start v
 start v e = sounds.edge-start isNumeral (isNumber Shift) v e
 
-letter-other : (b : ℕ) → isLetter b ≡ true → isNumeral b ≡ false
+pub letter-other : (b : ℕ) → isLetter b ≡ true → isNumeral b ≡ false
 letter-other b h =
     let k = leb-true 97 b (and-parts (leb 97 b) (leb b 122) h .0) in
     or-from (isDigit b) (eqb b 45) (and-right (leb 48 b) (leb b 57) (lt-leb b 57 (omega arith))) (ne-eqb b 45 (λ e. omega arith))

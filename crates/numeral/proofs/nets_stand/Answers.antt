@@ -1,5 +1,6 @@
+use Rattle.numeral.proofs.NetShapes.{net-shaped}
 use Rattle.numeral.proofs.Nets.{net-sound}
 use Rattle.numeral.proofs.nets_stand.Needs as need
 
 pub returns : need.returns
-returns c = record { net-sound = net-sound }
+returns c = record { net-sound = net-sound; net-shaped = net-shaped }
