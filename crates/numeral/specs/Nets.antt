@@ -9,7 +9,7 @@ use Rattle.std.specs.declared.option.Option.the-variants.{None}
 use Rattle.entry.specs.Names.{isName}
 use Rattle.shape.specs.Follow.{misfit}
 use Rattle.shape.specs.Grammar.{net}
-use Rattle.shape.specs.Kinds.{isNumeral}
+use Rattle.shape.specs.Kinds.{isAnyLetter, isNumeral}
 use Rattle.word.specs.Numbers.{isNumber}
 use Rattle.word.specs.Runs.{firstFault}
 use Rattle.word.specs.declared.limits.Limits.the-variants.{Shift}
@@ -35,7 +35,8 @@ pub record LawfulLeg (s : Leg) : Type 0 where
   pub highs : Keeps Shift (s .high)
   pub named : isName (s .name) ≡ true
 
--- the numbers of a net keep their limits, and a net has its shape
+-- the numbers of a net keep their limits, its names are names, and it has its shape
 pub record Nets : Type 0 where
   pub net-sound : (n : List ℕ) (ss : List Leg) → isName n ≡ true → All LawfulLeg ss → firstFault isNumeral (isNumber Shift) (netText n ss) ≡ None
+  pub net-named : (n : List ℕ) (ss : List Leg) → isName n ≡ true → All LawfulLeg ss → firstFault isAnyLetter isName (netText n ss) ≡ None
   pub net-shaped : (n : List ℕ) (ss : List Leg) → isName n ≡ true → All LawfulLeg ss → misfit net (netText n ss) ≡ None

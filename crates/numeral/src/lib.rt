@@ -41,7 +41,7 @@ pub fn breaks_stand() -> u8
     0
 }
 
-// The numbers of a written net keep their limits, and it has its shape.
+// The numbers and names of a written net are sound, and it has its shape.
 pub fn nets_stand() -> u8
     ensures { λ _. ⌜ Nets ⌝ }
 {
