@@ -1,5 +1,0 @@
-use Rattle.numeral.proofs.Lines.{boxes-read, boxes-taken, mark-read, mark-taken}
-use Rattle.numeral.proofs.lines_stand.Needs as need
-
-pub returns : need.returns
-returns c = record { boxes-read = boxes-read; boxes-taken = boxes-taken; mark-read = mark-read; mark-taken = mark-taken }
