@@ -31,93 +31,27 @@ pub enum State {
 pub(crate) fn next(s: State, k: Kind) -> Option<State>
     ensures { λ r. ⌜ r ≡ led s k ⌝ }
 {
-    match s {
-        State::NumberDue => match k {
-            Kind::Numeral => Some(State::InNumber),
-            _ => None,
-        },
-        State::InNumber => match k {
-            Kind::Numeral => Some(State::InNumber),
-            _ => None,
-        },
-        State::CodeDue => match k {
-            Kind::Numeral => Some(State::InCode),
-            _ => None,
-        },
-        State::InCode => match k {
-            Kind::Numeral => Some(State::InCode),
-            Kind::Space => Some(State::CodeDue),
-            _ => None,
-        },
-        State::BodyDue => match k {
-            Kind::Star => Some(State::StarDone),
-            Kind::Numeral => Some(State::InItem),
-            Kind::Dot => Some(State::ItemDone),
-            Kind::Open => Some(State::ClassDue),
-            _ => None,
-        },
-        State::StarDone => None,
-        State::ItemDue => match k {
-            Kind::Numeral => Some(State::InItem),
-            Kind::Dot => Some(State::ItemDone),
-            Kind::Open => Some(State::ClassDue),
-            _ => None,
-        },
-        State::InItem => match k {
-            Kind::Numeral => Some(State::InItem),
-            Kind::Space => Some(State::ItemDue),
-            _ => None,
-        },
-        State::ItemDone => match k {
-            Kind::Space => Some(State::ItemDue),
-            _ => None,
-        },
-        State::ClassDue => match k {
-            Kind::Numeral => Some(State::InClass),
-            _ => None,
-        },
-        State::InClass => match k {
-            Kind::Numeral => Some(State::InClass),
-            Kind::Space => Some(State::ClassDue),
-            Kind::Shut => Some(State::ItemDone),
-            _ => None,
-        },
-        State::NameDue => match k {
-            Kind::Letter => Some(State::InName),
-            _ => None,
-        },
-        State::InName => match k {
-            Kind::Letter => Some(State::InName),
-            Kind::Space => Some(State::LinkDue),
-            _ => None,
-        },
-        State::LinkDue => match k {
-            Kind::Letter => Some(State::InName),
-            Kind::Less => Some(State::LowDue),
-            _ => None,
-        },
-        State::LowDue => match k {
-            Kind::Numeral => Some(State::InLow),
-            _ => None,
-        },
-        State::InLow => match k {
-            Kind::Numeral => Some(State::InLow),
-            Kind::Space => Some(State::HighDue),
-            _ => None,
-        },
-        State::HighDue => match k {
-            Kind::Numeral => Some(State::InHigh),
-            _ => None,
-        },
-        State::InHigh => match k {
-            Kind::Numeral => Some(State::InHigh),
-            Kind::More => Some(State::RangeDone),
-            _ => None,
-        },
-        State::RangeDone => match k {
-            Kind::Space => Some(State::NameDue),
-            _ => None,
-        },
+    match (s, k) {
+        (State::NumberDue | State::InNumber, Kind::Numeral) => Some(State::InNumber),
+        (State::CodeDue | State::InCode, Kind::Numeral) => Some(State::InCode),
+        (State::InCode, Kind::Space) => Some(State::CodeDue),
+        (State::BodyDue, Kind::Star) => Some(State::StarDone),
+        (State::BodyDue | State::ItemDue | State::InItem, Kind::Numeral) => Some(State::InItem),
+        (State::BodyDue | State::ItemDue, Kind::Dot) => Some(State::ItemDone),
+        (State::BodyDue | State::ItemDue, Kind::Open) => Some(State::ClassDue),
+        (State::InItem | State::ItemDone, Kind::Space) => Some(State::ItemDue),
+        (State::ClassDue | State::InClass, Kind::Numeral) => Some(State::InClass),
+        (State::InClass, Kind::Space) => Some(State::ClassDue),
+        (State::InClass, Kind::Shut) => Some(State::ItemDone),
+        (State::NameDue | State::InName | State::LinkDue, Kind::Letter) => Some(State::InName),
+        (State::InName, Kind::Space) => Some(State::LinkDue),
+        (State::LinkDue, Kind::Less) => Some(State::LowDue),
+        (State::LowDue | State::InLow, Kind::Numeral) => Some(State::InLow),
+        (State::InLow, Kind::Space) => Some(State::HighDue),
+        (State::HighDue | State::InHigh, Kind::Numeral) => Some(State::InHigh),
+        (State::InHigh, Kind::More) => Some(State::RangeDone),
+        (State::RangeDone, Kind::Space) => Some(State::NameDue),
+        _ => None,
     }
 }
 
