@@ -3,8 +3,8 @@
 
 usage: python3 tools/respell.py     at the top of the repository, once, after the toolchain's own script
 
-A name in camel case becomes snake case. A dash stays where it joins names of definitions, and is a `_` where it joins
-plain words; a fact's name loses its dashes. Names that the check makes of the source (the goals of proofs/F/) stay.
+A name in camel case becomes snake case. A dash stays where a lemma's name joins names of definitions, and is a `_` in
+fields and where it joins plain words; a fact's name loses its dashes. Names that the check makes of the source (the goals of proofs/F/) stay.
 It stops, with nothing written, where a new name stands already or two names fall together.
 """
 
@@ -27,7 +27,7 @@ CHOSEN = {
     "read-from": "read_from_lem", "readJob": "job_read", "rowLarge": "is_row_large", "ruleAt": "rule_numbered",
     "rule-names": "rule_names_lem", "someLarge": "is_some_large", "takeBoxes": "with_boxes_taken",
     "takeLine": "with_line_taken", "takeMark": "with_mark_taken", "takeMotif": "with_motif_taken",
-    "takeRule": "with_rule_taken",
+    "takeRule": "with_rule_taken", "ladder-page": "ladder_page_read",
 }
 
 # Plain words that are names of definitions too.
@@ -56,14 +56,31 @@ def snake(word):
     return re.sub(r"(?<=[a-z0-9])([A-Z])", lambda m: "_" + m.group(1).lower(), word)
 
 
-def respelled(name, known):
+def fields():
+    """The dashed names of fields and constructors, which the lines under `record` or `data` declare."""
+    found = set()
+    for path in files():
+        inside = False
+        with open(path, encoding="utf-8") as f:
+            for line in f:
+                if re.match(r"^ *(pub )?(record|data) ", line):
+                    inside = True
+                    continue
+                m = re.match(r"^ +(?:pub )?([^\s(){}:,;.]+)(?: \([^:]*:[^)]*\))* : ", line)
+                if inside and m and "-" in m.group(1):
+                    found.add(m.group(1))
+                inside = inside and line.startswith(" ")
+    return found
+
+
+def respelled(name, known, members):
     if name in CHOSEN:
         return CHOSEN[name]
     if name[0].isupper():
         parts = name.split("-")
         return parts[0] + "".join(p[:1].upper() + p[1:] for p in parts[1:])
     parts = name.split("-")
-    joins = all((p in known or p in LIBRARY) and p not in PLAIN for p in parts)
+    joins = name not in members and all((p in known or p in LIBRARY) and p not in PLAIN for p in parts)
     return ("-" if joins else "_").join(snake(p) for p in parts)
 
 
@@ -75,11 +92,12 @@ def renames():
         for m in list(DEFINED.finditer(text)) + list(TYPED.finditer(text)):
             found[m.group(1)].add(path)
     plain = {n for n in found if "-" not in n}
+    members = fields()
     chosen = {}
     for name, where in found.items():
         if "-" in name and all(is_goal_file(p) for p in where) and MADE.search(name):
             continue
-        new = respelled(name, plain)
+        new = respelled(name, plain, members)
         if new != name:
             chosen[name] = new
     return chosen

@@ -48,7 +48,7 @@ Ranges l gs = (job_read empty_page (ended (hyphen ∷ l ∷ []))).page.rules ≡
 
 -- the ladder page is read whole; a name where a number is due is told at its place; ranges have their limits
 pub record WorkedJobs : Type 0 where
-  pub ladder-page : job_read empty_page ladder ≡ record { page = ladder_page; fault = None }
+  pub ladder_page_read : job_read empty_page ladder ≡ record { page = ladder_page; fault = None }
   pub name_for_number : Second (codes "r,l,hy <2 x> hy") (Line (BadShape 10))
   pub range_too_low : Second (codes "r,l,hy <-2001 0> hy") (Line (Word (BadNumber 8)))
   pub widest_range : Ranges (codes "r,l,hy <-2000 2000> hy") (record { range = record { low = negsuc 1999; high = pos 2000 }; motif = 0 } ∷ [])

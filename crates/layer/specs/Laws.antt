@@ -20,7 +20,7 @@ both-lawful M N l l' = record {
 }
 
 pub both_fair : (p q : Price) → Fair p → Fair q → Fair (both_price p q)
-both_fair p q f g = record { some = omega (arith, f.some); look-bound = omega arith; opening-bound = omega arith }
+both_fair p q f g = record { some = omega (arith, f.some); look_bound = omega arith; opening_bound = omega arith }
 
 pub part-parts : (M : Meaning) (u v k a b : ℕ) → (part M u v).has k a b ≡ true → (M.has k (a + u) (b + u) ≡ true) × (b + u ≤ v)
 part-parts M u v k a b h = let p = and_parts (M.has k (a + u) (b + u)) (nat_le (b + u) v) h in (p.0, leb-true (b + u) v p.1)

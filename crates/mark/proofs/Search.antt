@@ -23,7 +23,7 @@ any_key_lem xs k n w = Decides-by_or (λ x. is_key x k n w) (λ x. Is x k n w) (
 
 -- the key x answers at t's motif and known, with something up to w
 pub record Next (t x : Key) (w : ℕ) : Type 0 where
-  pub same-motif : x.motif ≡ t.motif
+  pub same_motif : x.motif ≡ t.motif
   pub same_known : x.known ≡ t.known
   pub soonest : x.wanted ≤ w
 
@@ -38,7 +38,7 @@ high_wants_more x y e p q = grind (arith, nat_tests)
 
 -- x follows t in the order, and y does not come before x
 between : (t x y : Key) → rank_key x t ≡ Greater → before y x ≡ false → y.motif ≡ t.motif → y.known ≡ t.known → Next t x y.wanted
-between t x y e f p q = record { same-motif = grind (arith, nat_tests); same_known = grind (arith, nat_tests); soonest = grind (arith, nat_tests) }
+between t x y e f p q = record { same_motif = grind (arith, nat_tests); same_known = grind (arith, nat_tests); soonest = grind (arith, nat_tests) }
 
 ranks : IsStrictWeakOrder before
 ranks = record { one_way = λ x y h. grind (arith, nat_tests); chain = λ x y z h k. grind (arith, nat_tests) }
@@ -64,7 +64,7 @@ module _ (xs : List Key) (sorted : Sorted xs) (t : Key) where
           λ d.
               let x = get_or xs i d in
               let b = between t x (get_or xs h.0 d) (parted.1 i d (omega arith) (omega arith)) (sorted_far before ranks xs (λ k e _ l. sorted k e l) i h.0 d high h.1) (h.2 d).motif_is (h.2 d).known_is in
-              record { same-motif = b.same-motif; same_known = b.same_known; soonest = omega (arith, (h.2 d).wanted_is, b.soonest) },
+              record { same_motif = b.same_motif; same_known = b.same_known; soonest = omega (arith, (h.2 d).wanted_is, b.soonest) },
         ))
         (cases_lt h.0 i)
 
@@ -76,7 +76,7 @@ module _ (xs : List Key) (sorted : Sorted xs) (t : Key) where
       first_is w l any = subst (λ y. Next t y w) (sym (here.1 x)) ((first w l any).1 x)
 
       pub none_other : (x.motif ≡ t.motif → x.known ≡ t.known → ⊥) → Answers None
-      none_other other w l any = let n = first_is w l any in other n.same-motif n.same_known
+      none_other other w l any = let n = first_is w l any in other n.same_motif n.same_known
 
       pub next : x.motif ≡ t.motif → x.known ≡ t.known → Answers (Some x.wanted)
       next p q =

@@ -48,4 +48,4 @@ mark-lawful n ms none =
     }
 
 pub mark_fair : Fair markPrice
-mark_fair = record { some = omega arith; look-bound = omega arith; opening-bound = omega arith }
+mark_fair = record { some = omega arith; look_bound = omega arith; opening_bound = omega arith }

@@ -9,7 +9,7 @@ use Rattle.writing.specs.Breaks.{Whole}
 use Rattle.writing.specs.Lines.{boxes_line}
 use Rattle.writing.specs.Motifs.{LawfulMotif, motif_line}
 use Rattle.writing.specs.Rules.{LawfulRule, rule_line}
-use Rattle.writing.proofs.Breaks.{boxes-whole, lines_parted, mark-whole, motif-whole, rule-whole}
+use Rattle.writing.proofs.Breaks.{boxes_whole, lines_parted, mark_whole, motif_whole, rule_whole}
 use Rattle.job.specs.Examples.{empty_page}
 use Rattle.job.specs.Jobs.{Read, read_lines}
 use Rattle.job.proofs.Reading.{short}
@@ -22,20 +22,20 @@ use Rattle.round_trip.proofs.Turns.{Leads, both_lead}
 
 piece_whole : (x : List ℕ) → Piece x → Whole (boxes_line x)
 piece_whole [] h = absurd (omega (arith, h.0))
-piece_whole (c ∷ x) h = boxes-whole c x h.1
+piece_whole (c ∷ x) h = boxes_whole c x h.1
 
 module _ (p : Page) (l : LawfulPage p) where
   mark-line : (m : Mark) → LawfulMark (length p.motifs) m → Whole (mark_of (motif_names_in p) m)
   mark-line m h =
       let names = motif_names_in p in
       let k : m.motif < length names = of_names p (λ n. m.motif < n) h.known in
-      mark-whole (get_or names m.motif []) m.start m.end (All-get_or (λ n. is_name n ≡ true) names m.motif [] k (motif_names_lem p l).named) h.starts h.ends
+      mark_whole (get_or names m.motif []) m.start m.end (All-get_or (λ n. is_name n ≡ true) names m.motif [] k (motif_names_lem p l).named) h.starts h.ends
 
   all_whole : All Whole (chapter_lines p)
   all_whole =
       let names = motif_names_in p in
-      let motifs = All-map Whole motif_line p.motifs (All-weaker LawfulMotif (λ m. Whole (motif_line m)) motif-whole p.motifs l.motifs) in
-      let rules = All-map Whole (rule_line names) p.rules (All-weaker (LawfulRule (length p.motifs)) (λ r. Whole (rule_line names r)) (λ r h. rule-whole names r (motif_names_lem p l) (of_names p (λ n. LawfulRule n r) h)) p.rules l.rules) in
+      let motifs = All-map Whole motif_line p.motifs (All-weaker LawfulMotif (λ m. Whole (motif_line m)) motif_whole p.motifs l.motifs) in
+      let rules = All-map Whole (rule_line names) p.rules (All-weaker (LawfulRule (length p.motifs)) (λ r. Whole (rule_line names r)) (λ r h. rule_whole names r (motif_names_lem p l) (of_names p (λ n. LawfulRule n r) h)) p.rules l.rules) in
       let boxes = All-map Whole boxes_line (pieces p.row) (All-weaker Piece (λ x. Whole (boxes_line x)) piece_whole (pieces p.row) (pieces-lawful p.row l.row)) in
       let marks = All-map Whole (mark_of names) p.marks (All-weaker (LawfulMark (length p.motifs)) (λ m. Whole (mark_of names m)) mark-line p.marks l.marks) in
       All-append Whole (motif_lines p) (rule_lines p ++ (boxes_lines p ++ mark_lines p)) motifs (All-append Whole (rule_lines p) (boxes_lines p ++ mark_lines p) rules (All-append Whole (boxes_lines p) (mark_lines p) boxes marks))

@@ -105,12 +105,12 @@ chapter_lawful c ms cs =
     record {
       motifs = ms;
       motif_names_lem = ap distinct (map-map (λ m. m.name) motif_entry (motifs_in b)) ∙ b.motifnames;
-      few-motifs = omega arith;
+      few_motifs = omega arith;
       rules = subst (λ n. All (LawfulRule n) (map rule_entry (rules_in b))) (sym motifs) (by_test (known count) (LawfulRule count) rule_entry (rule-lawful count) (rules_in b) b.known);
       rule_names_lem = ap distinct (map-map (λ r. r.name) rule_entry (rules_in b)) ∙ b.rulenames;
-      few-rules = omega arith;
+      few_rules = omega arith;
       row = cs;
-      few-boxes = omega (arith, c.row.ok.0);
+      few_boxes = omega (arith, c.row.ok.0);
       marks = subst (λ n. All (LawfulMark n) (marks_of c)) (sym motifs) (subst (All (LawfulMark count)) (map-id (marks_of c)) (by_test (held count) (LawfulMark count) (λ m. m) (mark-lawful count) (marks_of c) c.held));
-      few-marks = omega (arith, c.marks.ok.0);
+      few_marks = omega (arith, c.marks.ok.0);
     }

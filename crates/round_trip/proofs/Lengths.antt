@@ -34,8 +34,8 @@ cut-fit (suc n) [] a = tt
 cut-fit (suc n) (c ∷ cs) a =
     (boxes-fit (take 33 (c ∷ cs)) (All-take (λ x. x ≤ 65535) 33 (c ∷ cs) a) (omega (arith, length-take 33 (c ∷ cs))), cut-fit n (drop 33 (c ∷ cs)) (All-drop (λ x. x ≤ 65535) 33 (c ∷ cs) a))
 
-pub boxes-short : (p : Page) → LawfulPage p → All Short (boxes_lines p)
-boxes-short p l = All-map Short boxes_line (pieces p.row) (cut-fit (length p.row) p.row l.row)
+pub boxes_short : (p : Page) → LawfulPage p → All Short (boxes_lines p)
+boxes_short p l = All-map Short boxes_line (pieces p.row) (cut-fit (length p.row) p.row l.row)
 
 name-short : (n : List ℕ) → is_name n ≡ true → length n ≤ 8
 name-short n h =
@@ -48,8 +48,8 @@ mark-fits n start end h s e =
     let v = word_of (pos end) in
     omega (arith, name-short n h, word-short start (omega arith), word-short end (omega arith), length-append n (44 ∷ (u ++ (44 ∷ (v ++ [])))), length-append u (44 ∷ (v ++ [])), length-append v [])
 
-pub marks-short : (p : Page) → LawfulPage p → All Short (mark_lines p)
-marks-short p l =
+pub marks_short : (p : Page) → LawfulPage p → All Short (mark_lines p)
+marks_short p l =
     let names = motif_names_in p in
     All-map Short (mark_of names) p.marks (All-weaker (LawfulMark (length p.motifs)) (λ m. Short (mark_of names m)) (λ m h.
     let k : m.motif < length names = of_names p (λ n. m.motif < n) h.known in

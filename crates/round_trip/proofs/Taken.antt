@@ -9,10 +9,10 @@ use Rattle.text.specs.Pages.{MotifEntry, Page, RuleEntry, motif_names_in}
 use Rattle.writing.specs.Lines.{boxes_line}
 use Rattle.writing.specs.Motifs.{LawfulMotif, motif_line}
 use Rattle.writing.specs.Rules.{LawfulNames, LawfulRule, rule_line}
-use Rattle.writing.proofs.Lines.{boxes-taken, mark-taken}
-use Rattle.writing.proofs.Motifs.{motif-taken}
+use Rattle.writing.proofs.Lines.{boxes_taken, mark_taken}
+use Rattle.writing.proofs.Motifs.{motif_taken}
 use Rattle.writing.proofs.Numbers.{number_of}
-use Rattle.writing.proofs.Rules.{rule-taken}
+use Rattle.writing.proofs.Rules.{rule_taken}
 use Rattle.job.specs.Jobs.{line_read}
 use Rattle.round_trip.specs.Chapters.{boxes_lines, mark_lines, mark_of, motif_lines, pieces, rule_lines}
 use Rattle.round_trip.specs.Laws.{LawfulMark, LawfulPage, Short}
@@ -36,23 +36,23 @@ of_names p P h = subst P (sym (length-map p.motifs (λ m. m.name))) h
 module _ (p : Page) (l : LawfulPage p) where
   pub motifs_lead : All Short (motif_lines p) → Leads (page [] [] [] []) (motif_lines p) (page p.motifs [] [] [])
   motifs_lead a = in_turn (λ ms. page ms [] [] []) motif_line p.motifs (λ done m rest e.
-      motif-taken m (holds p.motifs done m rest e LawfulMotif l.motifs) (page done [] [] [])
+      motif_taken m (holds p.motifs done m rest e LawfulMotif l.motifs) (page done [] [] [])
       (holds p.motifs done m rest e (λ x. Short (motif_line x)) (all_unmap Short motif_line p.motifs a))
       (free p.motifs done m rest e (λ x. x.name) l.motif_names_lem)
-      (omega (arith, fewer p.motifs done m rest e, l.few-motifs)))
+      (omega (arith, fewer p.motifs done m rest e, l.few_motifs)))
 
   pub rules_lead : All Short (rule_lines p) → Leads (page p.motifs [] [] []) (rule_lines p) (page p.motifs p.rules [] [])
   rules_lead a =
       let line = rule_line (motif_names_in p) in
       in_turn (λ rs. page p.motifs rs [] []) line p.rules (λ done r rest e.
-      rule-taken (page p.motifs done [] []) r (motif_names_lem p l) (of_names p (λ n. LawfulRule n r) (holds p.rules done r rest e (LawfulRule (length p.motifs)) l.rules))
+      rule_taken (page p.motifs done [] []) r (motif_names_lem p l) (of_names p (λ n. LawfulRule n r) (holds p.rules done r rest e (LawfulRule (length p.motifs)) l.rules))
       (holds p.rules done r rest e (λ x. Short (line x)) (all_unmap Short line p.rules a))
       (free p.rules done r rest e (λ x. x.name) l.rule_names_lem)
-      (omega (arith, fewer p.rules done r rest e, l.few-rules)))
+      (omega (arith, fewer p.rules done r rest e, l.few_rules)))
 
   piece_taken : (cs x : List ℕ) → Piece x → Short (boxes_line x) → length cs + length x ≤ 20000 → line_read (page p.motifs p.rules cs []) (boxes_line x) ≡ Ok (page p.motifs p.rules (cs ++ x) [])
   piece_taken cs [] h s r = absurd (omega (arith, h.0))
-  piece_taken cs (c ∷ x) h s r = boxes-taken c x h.1 (page p.motifs p.rules cs []) s r
+  piece_taken cs (c ∷ x) h s r = boxes_taken c x h.1 (page p.motifs p.rules cs []) s r
 
   pub boxes_lead : All Short (boxes_lines p) → Leads (page p.motifs p.rules [] []) (boxes_lines p) (page p.motifs p.rules p.row [])
   boxes_lead a =
@@ -60,7 +60,7 @@ module _ (p : Page) (l : LawfulPage p) where
       subst (λ cs. Leads (page p.motifs p.rules [] []) (boxes_lines p) (page p.motifs p.rules cs [])) (pieces-laid p.row)
       (in_turn (λ ps. page p.motifs p.rules (laid ps) []) boxes_line all (λ done x rest e.
       piece_taken (laid done) x (holds all done x rest e Piece (pieces-lawful p.row l.row))
-      (holds all done x rest e (λ y. Short (boxes_line y)) (all_unmap Short boxes_line all a)) (omega (arith, piece_room p.row done x rest e, l.few-boxes))
+      (holds all done x rest e (λ y. Short (boxes_line y)) (all_unmap Short boxes_line all a)) (omega (arith, piece_room p.row done x rest e, l.few_boxes))
       ∙ ap (λ cs. Ok (page p.motifs p.rules cs [])) (flat_map_more (λ y. y) [] done x)))
 
   pub marks_lead : All Short (mark_lines p) → Leads (page p.motifs p.rules p.row []) (mark_lines p) p
@@ -69,7 +69,7 @@ module _ (p : Page) (l : LawfulPage p) where
       in_turn (λ ks. page p.motifs p.rules p.row ks) (mark_of names) p.marks (λ done m rest e.
       let h = holds p.marks done m rest e (LawfulMark (length p.motifs)) l.marks in
       let k : m.motif < length names = of_names p (λ n. m.motif < n) h.known in
-      mark-taken (get_or names m.motif []) m.start m.end (All-get_or (λ n. is_name n ≡ true) names m.motif [] k (motif_names_lem p l).named) h.starts h.ends (page p.motifs p.rules p.row done) m.motif
+      mark_taken (get_or names m.motif []) m.start m.end (All-get_or (λ n. is_name n ≡ true) names m.motif [] k (motif_names_lem p l).named) h.starts h.ends (page p.motifs p.rules p.row done) m.motif
       (holds p.marks done m rest e (λ x. Short (mark_of names x)) (all_unmap Short (mark_of names) p.marks a))
       (number_of names l.motif_names_lem m.motif k)
-      (omega (arith, fewer p.marks done m rest e, l.few-marks)))
+      (omega (arith, fewer p.marks done m rest e, l.few_marks)))

@@ -21,14 +21,14 @@ pub record LawfulMark (count : ℕ) (m : Mark) : Type 0 where
 pub record LawfulPage (p : Page) : Type 0 where
   pub motifs : All LawfulMotif p.motifs
   pub motif_names_lem : distinct (motif_names_in p) ≡ true
-  pub few-motifs : length p.motifs ≤ 16
+  pub few_motifs : length p.motifs ≤ 16
   pub rules : All (LawfulRule (length p.motifs)) p.rules
   pub rule_names_lem : distinct (rule_names_in p) ≡ true
-  pub few-rules : length p.rules ≤ 8
+  pub few_rules : length p.rules ≤ 8
   pub row : Codes p.row
-  pub few-boxes : length p.row ≤ 20000
+  pub few_boxes : length p.row ≤ 20000
   pub marks : All (LawfulMark (length p.motifs)) p.marks
-  pub few-marks : length p.marks ≤ 4000
+  pub few_marks : length p.marks ≤ 4000
 
 -- a line that is not too long
 abbrev pub Short : List ℕ → Type 0
@@ -41,5 +41,5 @@ ReadBack p = All Short (chapter_lines p) → length (chapter_text p) ≤ 60000 �
 -- lines of boxes and of marks are never too long
 pub record RoundTrip : Type 0 where
   pub back : (p : Page) → LawfulPage p → ReadBack p
-  pub boxes-short : (p : Page) → LawfulPage p → All Short (boxes_lines p)
-  pub marks-short : (p : Page) → LawfulPage p → All Short (mark_lines p)
+  pub boxes_short : (p : Page) → LawfulPage p → All Short (boxes_lines p)
+  pub marks_short : (p : Page) → LawfulPage p → All Short (mark_lines p)

@@ -60,4 +60,4 @@ few_at (m ∷ ms) (suc k) = few_at ms k
 pub row_fair : (book : Book) (k : ℕ) → Fair (row_price book k)
 row_fair book k =
     let f = few_at (motifs_in book) k in
-    record { some = omega arith; look-bound = omega arith; opening-bound = omega arith }
+    record { some = omega arith; look_bound = omega arith; opening_bound = omega arith }

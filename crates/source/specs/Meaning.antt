@@ -35,8 +35,8 @@ pub record Price : Type 0 where
 -- what every priced source owes of each price
 pub record Fair (p : Price) : Type 0 where
   pub some : 1 ≤ p.look
-  pub look-bound : p.look ≤ 1000
-  pub opening-bound : p.opening ≤ 1000
+  pub look_bound : p.look ≤ 1000
+  pub opening_bound : p.opening ≤ 1000
 
 -- the meaning of a priced source, whole
 pub record Priced : Type 0 where

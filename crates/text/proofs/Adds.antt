@@ -80,8 +80,8 @@ module _ (c : Chapter) (m : Motif) (n : List ℕ) (w : ℕ) (b : List ℕ) (name
   motif_added d e f g =
       page_is (ap (map motif_entry) e ∙ map_push motif_entry (motifs_in c.book) m ∙ ap (λ x. map motif_entry (motifs_in c.book) ++ x ∷ []) entry) (ap (map rule_entry) f) (ap vec_items g.0) (ap vec_items g.1)
 
-pub motif-taken : (c : Chapter) (n : List ℕ) (w : ℕ) (b : List ℕ) → taken n (motif_names (motifs_in c.book)) ≡ true → with_motif_taken (page_of c) n w b ≡ Err NameTaken
-motif-taken c n w b t = ap (λ x. unless_by x NameTaken (unless_by (leb 16 (length (page_of c).motifs)) NoRoom (Ok (with_motif (page_of c) (record { name = n; weight = w; body = body_in (body_of b) }))))) (ap (taken n) (motif_names_lem c) ∙ t)
+pub motif_taken : (c : Chapter) (n : List ℕ) (w : ℕ) (b : List ℕ) → taken n (motif_names (motifs_in c.book)) ≡ true → with_motif_taken (page_of c) n w b ≡ Err NameTaken
+motif_taken c n w b t = ap (λ x. unless_by x NameTaken (unless_by (leb 16 (length (page_of c).motifs)) NoRoom (Ok (with_motif (page_of c) (record { name = n; weight = w; body = body_in (body_of b) }))))) (ap (taken n) (motif_names_lem c) ∙ t)
 
 -- a rule
 
@@ -92,8 +92,8 @@ module _ (c : Chapter) (n t : List ℕ) where
   opened : (x : Bool) → taken n (rule_names (rules_in c.book)) ≡ x → with_rule_taken (page_of c) n t ≡ unless_by x NameTaken (take_steps (page_of c) n Steps)
   opened x h = ap (λ ns. unless_by (taken n ns) NameTaken (take_steps (page_of c) n (steps_in (motif_names_in (page_of c)) t))) (rule_names_lem c) ∙ ap (λ y. unless_by y NameTaken (take_steps (page_of c) n (steps_in (motif_names_in (page_of c)) t))) h ∙ ap (λ ns. unless_by x NameTaken (take_steps (page_of c) n (steps_in ns t))) (motif_names_lem c)
 
-  pub rule-taken : taken n (rule_names (rules_in c.book)) ≡ true → with_rule_taken (page_of c) n t ≡ Err NameTaken
-  rule-taken h = opened true h
+  pub rule_taken : taken n (rule_names (rules_in c.book)) ≡ true → with_rule_taken (page_of c) n t ≡ Err NameTaken
+  rule_taken h = opened true h
 
   pub rule_unknown : (q : ℕ) → taken n (rule_names (rules_in c.book)) ≡ false → Err q ≡ steps_in (motif_names (motifs_in c.book)) t → with_rule_taken (page_of c) n t ≡ Err (UnknownMotif (3 + length n + q))
   rule_unknown q h e = opened false h ∙ sym (ap (take_steps (page_of c) n) e)

@@ -40,4 +40,4 @@ cheapest P h t r o task finished f c s ls price' planned =
 pub whole-stands : WholeStands
 whole-stands P lawful cs proper =
     let t = calls_told P lawful cs proper in
-    record { answered = refl; spent = t.spent; tells = t.tells; bill-told = t.bill; cheapest = cheapest P (noted nothing cs (answers P clean cs)) t.tells }
+    record { answered = refl; spent = t.spent; tells = t.tells; bill_told = t.bill; cheapest = cheapest P (noted nothing cs (answers P clean cs)) t.tells }

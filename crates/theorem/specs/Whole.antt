@@ -25,7 +25,7 @@ pub record Whole (P : Priced) (cs : List Call) (rs : List Reply) (bill : ℕ) : 
   -- the finds taken are placements of the laid rule, no two alike, and on a finished sheet all of them; its bill is the price by the true numbers of partial placements; each look goes on where the one before it stopped
   pub tells : Tells P (noted nothing cs rs)
   -- the bill that the sheet answers is the one that the last accepted look since the lay told
-  pub bill-told : bill ≡ (noted nothing cs rs).bill
+  pub bill_told : bill ≡ (noted nothing cs rs).bill
   -- the planned order comes to the planned price, and no other to less
   pub cheapest : Cheapest P (noted nothing cs rs)
 

@@ -48,10 +48,10 @@ items_edge : (es : List Entry) → All Lawful es → Edge (behind 32 (map item_t
 items_edge [] a = sounds.edge_end is_numeral (is_number Code)
 items_edge (e ∷ es) a = byte 32 (item_text e ++ behind 32 (map item_text es)) refl (item-start e (behind 32 (map item_text es)) a.0 (items_edge es a.1))
 
-pub body-sound : (b : Option (List Entry)) → LawfulBody b → first_fault_of is_numeral (is_number Code) (body_text b) ≡ None
-body-sound None l = refl
-body-sound (Some []) l = absurd (omega (arith, l.0))
-body-sound (Some (e ∷ es)) l = item-start e (behind 32 (map item_text es)) l.2.0 (items_edge es l.2.1) 0
+pub body_sound : (b : Option (List Entry)) → LawfulBody b → first_fault_of is_numeral (is_number Code) (body_text b) ≡ None
+body_sound None l = refl
+body_sound (Some []) l = absurd (omega (arith, l.0))
+body_sound (Some (e ∷ es)) l = item-start e (behind 32 (map item_text es)) l.2.0 (items_edge es l.2.1) 0
 
 -- the shapes of what may follow
 
@@ -100,7 +100,7 @@ items_follow : (es : List Entry) → All Lawful es → Follows (behind 32 (map i
 items_follow [] a = (refl, refl)
 items_follow (e ∷ es) a = let h = item-fits e (behind 32 (map item_text es)) a.0 (items_follow es a.1) in (h, h)
 
-pub body-shaped : (b : Option (List Entry)) → LawfulBody b → misfit body (body_text b) ≡ None
-body-shaped None l = refl
-body-shaped (Some []) l = absurd (omega (arith, l.0))
-body-shaped (Some (e ∷ es)) l = fits body (item_text e ++ behind 32 (map item_text es)) (first_fits e (behind 32 (map item_text es)) l.2.0 (items_follow es l.2.1))
+pub body_shaped : (b : Option (List Entry)) → LawfulBody b → misfit body (body_text b) ≡ None
+body_shaped None l = refl
+body_shaped (Some []) l = absurd (omega (arith, l.0))
+body_shaped (Some (e ∷ es)) l = fits body (item_text e ++ behind 32 (map item_text es)) (first_fits e (behind 32 (map item_text es)) l.2.0 (items_follow es l.2.1))

@@ -39,11 +39,11 @@ line-whole a f fs o h k = lacks-tally 10 (line_of a (f ∷ fs)) (o, (refl, joine
 foreign : Foreign 10
 foreign = record { numeral = refl; space = refl; dot = refl; opening = refl; shutting = refl }
 
-pub boxes-whole : (c : ℕ) (cs : List ℕ) → Codes (c ∷ cs) → Whole (boxes_line (c ∷ cs))
-boxes-whole c cs a = line-whole 98 (codes_field (c ∷ cs)) [] refl (codes_lack 10 foreign (c ∷ cs) a) tt
+pub boxes_whole : (c : ℕ) (cs : List ℕ) → Codes (c ∷ cs) → Whole (boxes_line (c ∷ cs))
+boxes_whole c cs a = line-whole 98 (codes_field (c ∷ cs)) [] refl (codes_lack 10 foreign (c ∷ cs) a) tt
 
-pub mark-whole : (name : List ℕ) (start end : ℕ) → is_name name ≡ true → start ≤ 20000 → end ≤ 20000 → Whole (mark_line name start end)
-mark-whole name start end n s e =
+pub mark_whole : (name : List ℕ) (start end : ℕ) → is_name name ≡ true → start ≤ 20000 → end ≤ 20000 → Whole (mark_line name start end)
+mark_whole name start end n s e =
     line-whole 115 name (word_of (pos start) ∷ word_of (pos end) ∷ []) refl (name-lacks 10 name refl n) (lacks 10 refl Place (pos start) (place_keeps start s), (lacks 10 refl Place (pos end) (place_keeps end e), tt))
 
 body-whole : (b : Option (List Entry)) → LawfulBody b → Lacks 10 (body_text b)
@@ -51,10 +51,10 @@ body-whole None l = (refl, tt)
 body-whole (Some []) l = tt
 body-whole (Some (e ∷ es)) l = body-lacks 10 foreign e es l.2
 
-pub motif-whole : (m : MotifEntry) → LawfulMotif m → Whole (motif_line m)
-motif-whole m l =
+pub motif_whole : (m : MotifEntry) → LawfulMotif m → Whole (motif_line m)
+motif_whole m l =
     line-whole 109 m.name (word_of (pos m.weight) ∷ body_text m.body ∷ []) refl (name-lacks 10 m.name refl l.named) (lacks 10 refl Code (pos m.weight) (code_keeps m.weight l.weighs), (body-whole m.body l.body, tt))
 
-pub rule-whole : (names : List (List ℕ)) (r : RuleEntry) → LawfulNames names → LawfulRule (length names) r → Whole (rule_line names r)
-rule-whole names r n h =
+pub rule_whole : (names : List (List ℕ)) (r : RuleEntry) → LawfulNames names → LawfulRule (length names) r → Whole (rule_line names r)
+rule_whole names r n h =
     line-whole 114 r.name (net_field names r.net ∷ []) refl (name-lacks 10 r.name refl h.named) (net-lacks 10 (record { numeral = refl; letter = refl; space = refl; less = refl; more = refl }) names r n h, tt)

@@ -61,8 +61,8 @@ module _ (c : ℕ) (cs : List ℕ) (a : Codes (c ∷ cs)) where
     codes = ap (map code_of) (parted Code (pos c) (map pos cs) (codes-keep (c ∷ cs) a)) ∙ codes-back (c ∷ cs) a;
   }
 
-  pub boxes-taken : BoxesTaken (c ∷ cs)
-  boxes-taken p short room =
+  pub boxes_taken : BoxesTaken (c ∷ cs)
+  boxes_taken p short room =
       let l = boxes_line (c ∷ cs) in
       ap (λ t. unless_by t LineTooLong (take_judged p (line_fault l) (line_says l))) (le-ltb 200 (length l) short)
       ∙ (λ i. take_judged p (boxes_read.sound i) (boxes_read.says i))
@@ -103,8 +103,8 @@ module _ (name : List ℕ) (start end : ℕ) (n : is_name name ≡ true) (s : st
     says = line-says 115 name (word_of (pos start) ∷ word_of (pos end) ∷ []) comma_name comma_places Mark refl ∙ (λ i. mark name (place-back start s i) (place-back end e i));
   }
 
-  pub mark-taken : MarkTaken name start end
-  mark-taken p k short known room =
+  pub mark_taken : MarkTaken name start end
+  mark_taken p k short known room =
       let l = mark_line name start end in
       ap (λ t. unless_by t LineTooLong (take_judged p (line_fault l) (line_says l))) (le-ltb 200 (length l) short)
       ∙ (λ i. take_judged p (mark_read.sound i) (mark_read.says i))

@@ -18,7 +18,7 @@ use Rattle.text.specs.declared.faults.TextFault.TheVariants.{LineTooLong, NameTa
 use Rattle.writing.specs.Bodies.{LawfulBody, body_text}
 use Rattle.writing.specs.Motifs.{LawfulMotif, MotifRead, MotifTaken, motif_line}
 use Rattle.writing.specs.Numerals.{word_of}
-use Rattle.writing.proofs.Bodies.{body-shaped, body-sound}
+use Rattle.writing.proofs.Bodies.{body_shaped, body_sound}
 use Rattle.writing.proofs.Fields.{line-fault, line-says}
 use Rattle.writing.proofs.Items.{body_back, body-lacks}
 use Rattle.writing.proofs.Laws.{lacks, shaped}
@@ -33,7 +33,7 @@ module _ (m : MotifEntry) (l : LawfulMotif m) where
   motif-none : (i j k : ℕ) → motif_fault (record { at = i; bytes = m.name }) (record { at = j; bytes = word_of (pos m.weight) }) (record { at = k; bytes = body_text m.body }) ≡ None
   motif-none i j k d =
       let w = code_keeps m.weight l.weighs in
-      in_word (refuse (not (l.named d)) (BadName i) None) else in_word (raised BadNumber j (one-sound Code (pos m.weight) w d)) else in_word (raised BadNumber k (body-sound m.body l.body d)) else raised BadShape j (shaped Code (pos m.weight) w d) else raised BadShape k (body-shaped m.body l.body d) else raised TooMany k (refused_by (body_back m.body l.body d))
+      in_word (refuse (not (l.named d)) (BadName i) None) else in_word (raised BadNumber j (one-sound Code (pos m.weight) w d)) else in_word (raised BadNumber k (body_sound m.body l.body d)) else raised BadShape j (shaped Code (pos m.weight) w d) else raised BadShape k (body_shaped m.body l.body d) else raised TooMany k (refused_by (body_back m.body l.body d))
 
   comma_name : Lacks 44 m.name
   comma_name = name-lacks 44 m.name refl l.named
@@ -47,8 +47,8 @@ module _ (m : MotifEntry) (l : LawfulMotif m) where
     says = line-says 109 m.name (word_of (pos m.weight) ∷ body_text m.body ∷ []) comma_name comma_rest Motif refl ∙ (λ i. motif m.name (code-back m.weight l.weighs i) (body_text m.body));
   }
 
-  pub motif-taken : MotifTaken m
-  motif-taken p short free room =
+  pub motif_taken : MotifTaken m
+  motif_taken p short free room =
       let t = motif_line m in
       ap (λ x. unless_by x LineTooLong (take_judged p (line_fault t) (line_says t))) (le-ltb 200 (length t) short)
       ∙ (λ i. take_judged p (motif_read.sound i) (motif_read.says i))

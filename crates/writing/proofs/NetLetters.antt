@@ -68,5 +68,5 @@ legs_edge : (ss : List Leg) → All LawfulLeg ss → Edge (behind 32 (map leg_te
 legs_edge [] a = sounds.edge_end is_any_letter is_name
 legs_edge (s ∷ ss) a = byte 32 (leg_text s ++ behind 32 (map leg_text ss)) refl (leg_start s (behind 32 (map leg_text ss)) a.0 (legs_edge ss a.1))
 
-pub net-named : (n : List ℕ) (ss : List Leg) → is_name n ≡ true → All LawfulLeg ss → first_fault_of is_any_letter is_name (net_text n ss) ≡ None
-net-named n ss h a = name-start n (behind 32 (map leg_text ss)) h (legs_edge ss a) 0
+pub net_named : (n : List ℕ) (ss : List Leg) → is_name n ≡ true → All LawfulLeg ss → first_fault_of is_any_letter is_name (net_text n ss) ≡ None
+net_named n ss h a = name-start n (behind 32 (map leg_text ss)) h (legs_edge ss a) 0

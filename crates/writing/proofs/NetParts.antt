@@ -77,6 +77,6 @@ legs_told at (s ∷ ss) a =
     ap (λ o. range_or o (λ h. range at h ∷ tokens on rest) (name at (low_part s) ∷ tokens (at + length (low_part s) + 1) (high_part s ∷ rest))) (bounds_are s a.0)
     ∙ ap (λ ts. g ∷ ts) (name_token on s.name (leg_parts ss) (name-lacks 60 s.name refl a.0.named) ∙ ap (λ ts. name on s.name ∷ ts) (legs_told (on + length s.name + 1) ss a.1))
 
-pub net-back : (n : List ℕ) (ss : List Leg) → is_name n ≡ true → All LawfulLeg ss → net_tokens (net_text n ss) ≡ name 0 n ∷ leg_tokens (0 + length n + 1) ss
-net-back n ss h a =
+pub net_back : (n : List ℕ) (ss : List Leg) → is_name n ≡ true → All LawfulLeg ss → net_tokens (net_text n ss) ≡ name 0 n ∷ leg_tokens (0 + length n + 1) ss
+net_back n ss h a =
     ap (tokens 0) (net-parts n ss h a) ∙ name_token 0 n (leg_parts ss) (name-lacks 60 n refl h) ∙ ap (λ ts. name 0 n ∷ ts) (legs_told (0 + length n + 1) ss a)

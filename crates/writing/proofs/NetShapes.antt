@@ -79,5 +79,5 @@ legs_fit : (ss : List Leg) → All LawfulLeg ss → has in_name (behind 32 (map 
 legs_fit [] a = refl
 legs_fit (s ∷ ss) a = leg_fits s (behind 32 (map leg_text ss)) a.0 ∙ legs_fit ss a.1
 
-pub net-shaped : (n : List ℕ) (ss : List Leg) → is_name n ≡ true → All LawfulLeg ss → misfit net (net_text n ss) ≡ None
-net-shaped n ss h a = fits net (net_text n ss) (name-fits n (behind 32 (map leg_text ss)) h ∙ legs_fit ss a)
+pub net_shaped : (n : List ℕ) (ss : List Leg) → is_name n ≡ true → All LawfulLeg ss → misfit net (net_text n ss) ≡ None
+net_shaped n ss h a = fits net (net_text n ss) (name-fits n (behind 32 (map leg_text ss)) h ∙ legs_fit ss a)

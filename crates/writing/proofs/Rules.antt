@@ -23,9 +23,9 @@ use Rattle.writing.specs.Rules.{LawfulNames, LawfulRule, RuleRead, RuleTaken, le
 use Rattle.writing.proofs.Fields.{line-fault, line-says}
 use Rattle.writing.proofs.Laws.{lacks}
 use Rattle.writing.proofs.Lines.{name-lacks}
-use Rattle.writing.proofs.NetLetters.{net-named}
-use Rattle.writing.proofs.NetShapes.{net-shaped}
-use Rattle.writing.proofs.Nets.{net-sound}
+use Rattle.writing.proofs.NetLetters.{net_named}
+use Rattle.writing.proofs.NetShapes.{net_shaped}
+use Rattle.writing.proofs.Nets.{net_sound}
 use Rattle.writing.proofs.Parting.{append-lacks, joined-lacks}
 use Rattle.writing.proofs.Steps.{few_names, first-named, forward, legs_lawful, steps_back}
 
@@ -61,7 +61,7 @@ module _ (names : List (List ℕ)) (r : RuleEntry) (n : LawfulNames names) (h : 
       let ss = map (leg_of names) r.net.rest in
       let f = first-named names n r h in
       let a = legs_lawful names n r.net.rest h.rest in
-      in_word (refuse (not (h.named d)) (BadName i) None) else in_word (raised BadName j (net-named w ss f a d)) else in_word (raised BadNumber j (net-sound w ss f a d)) else raised BadShape j (net-shaped w ss f a d) else raised BackwardRange j (forward names n r h d) else raised TooMany j (few_names names n r h d)
+      in_word (refuse (not (h.named d)) (BadName i) None) else in_word (raised BadName j (net_named w ss f a d)) else in_word (raised BadNumber j (net_sound w ss f a d)) else raised BadShape j (net_shaped w ss f a d) else raised BackwardRange j (forward names n r h d) else raised TooMany j (few_names names n r h d)
 
   comma_name : Lacks 44 r.name
   comma_name = name-lacks 44 r.name refl h.named
@@ -76,8 +76,8 @@ module _ (names : List (List ℕ)) (r : RuleEntry) (n : LawfulNames names) (h : 
     steps = steps_back names n r h;
   }
 
-pub rule-taken : (p : Page) (r : RuleEntry) → LawfulNames (motif_names_in p) → LawfulRule (length (motif_names_in p)) r → RuleTaken p r
-rule-taken p r n h short free room =
+pub rule_taken : (p : Page) (r : RuleEntry) → LawfulNames (motif_names_in p) → LawfulRule (length (motif_names_in p)) r → RuleTaken p r
+rule_taken p r n h short free room =
     let names = motif_names_in p in
     let t = rule_line names r in
     let read = rule_read names r n h in

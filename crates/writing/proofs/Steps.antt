@@ -19,7 +19,7 @@ use Rattle.text.specs.Pages.{RuleEntry}
 use Rattle.writing.specs.Nets.{LawfulLeg, Leg, high_part, leg_tokens, low_part}
 use Rattle.writing.specs.Numerals.{Keeps}
 use Rattle.writing.specs.Rules.{LawfulLink, LawfulNames, LawfulRule, leg_of, net_field}
-use Rattle.writing.proofs.NetParts.{net-back}
+use Rattle.writing.proofs.NetParts.{net_back}
 use Rattle.writing.proofs.Numbers.{number_of}
 
 not_less : (a b : ℤ) → a ≤ℤ b → lt_z b a ≡ false
@@ -75,7 +75,7 @@ module _ (names : List (List ℕ)) (n : LawfulNames names) where
     first-named = All-get_or (λ w. is_name w ≡ true) names r.net.first [] h.first n.named
 
     told : net_tokens (net_field names r.net) ≡ name 0 (get_or names r.net.first []) ∷ leg_tokens (0 + length (get_or names r.net.first []) + 1) (map (leg_of names) r.net.rest)
-    told = net-back (get_or names r.net.first []) (map (leg_of names) r.net.rest) first-named (legs_lawful r.net.rest h.rest)
+    told = net_back (get_or names r.net.first []) (map (leg_of names) r.net.rest) first-named (legs_lawful r.net.rest h.rest)
 
     pub forward : backward (net_tokens (net_field names r.net)) ≡ None
     forward = ap backward told ∙ legs_forward (0 + length (get_or names r.net.first []) + 1) r.net.rest h.rest

@@ -35,6 +35,6 @@ LawfulBody None = Unit {0}
 LawfulBody (Some es) = (0 < length es) × (length es ≤ 16) × All Lawful es
 
 pub record Bodies : Type 0 where
-  pub body-sound : (b : Option (List Entry)) → LawfulBody b → first_fault_of is_numeral (is_number Code) (body_text b) ≡ None
-  pub body-shaped : (b : Option (List Entry)) → LawfulBody b → misfit body (body_text b) ≡ None
+  pub body_sound : (b : Option (List Entry)) → LawfulBody b → first_fault_of is_numeral (is_number Code) (body_text b) ≡ None
+  pub body_shaped : (b : Option (List Entry)) → LawfulBody b → misfit body (body_text b) ≡ None
   pub body_back : (b : Option (List Entry)) → LawfulBody b → body_of (body_text b) ≡ Ok b

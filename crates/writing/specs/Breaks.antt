@@ -19,8 +19,8 @@ Whole l = tally 10 l ≡ 0
 
 -- written lines are whole, and whole lines are parted as they were ended, with an empty one behind the last byte 10
 pub record Breaks : Type 0 where
-  pub boxes-whole : (c : ℕ) (cs : List ℕ) → Codes (c ∷ cs) → Whole (boxes_line (c ∷ cs))
-  pub mark-whole : (name : List ℕ) (start end : ℕ) → is_name name ≡ true → start ≤ 20000 → end ≤ 20000 → Whole (mark_line name start end)
-  pub motif-whole : (m : MotifEntry) → LawfulMotif m → Whole (motif_line m)
-  pub rule-whole : (names : List (List ℕ)) (r : RuleEntry) → LawfulNames names → LawfulRule (length names) r → Whole (rule_line names r)
+  pub boxes_whole : (c : ℕ) (cs : List ℕ) → Codes (c ∷ cs) → Whole (boxes_line (c ∷ cs))
+  pub mark_whole : (name : List ℕ) (start end : ℕ) → is_name name ≡ true → start ≤ 20000 → end ≤ 20000 → Whole (mark_line name start end)
+  pub motif_whole : (m : MotifEntry) → LawfulMotif m → Whole (motif_line m)
+  pub rule_whole : (names : List (List ℕ)) (r : RuleEntry) → LawfulNames names → LawfulRule (length names) r → Whole (rule_line names r)
   pub lines_parted : (ls : List (List ℕ)) → All Whole ls → parts 10 (ended ls) ≡ ls ++ [] ∷ []

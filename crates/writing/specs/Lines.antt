@@ -51,6 +51,6 @@ MarkTaken name start end =
 
 pub record Lines : Type 0 where
   pub boxes_read : (c : ℕ) (cs : List ℕ) → Codes (c ∷ cs) → BoxesRead (c ∷ cs)
-  pub boxes-taken : (c : ℕ) (cs : List ℕ) → Codes (c ∷ cs) → BoxesTaken (c ∷ cs)
+  pub boxes_taken : (c : ℕ) (cs : List ℕ) → Codes (c ∷ cs) → BoxesTaken (c ∷ cs)
   pub mark_read : (name : List ℕ) (start end : ℕ) → is_name name ≡ true → start ≤ 20000 → end ≤ 20000 → MarkRead name start end
-  pub mark-taken : (name : List ℕ) (start end : ℕ) → is_name name ≡ true → start ≤ 20000 → end ≤ 20000 → MarkTaken name start end
+  pub mark_taken : (name : List ℕ) (start end : ℕ) → is_name name ≡ true → start ≤ 20000 → end ≤ 20000 → MarkTaken name start end

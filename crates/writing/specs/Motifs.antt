@@ -32,4 +32,4 @@ MotifTaken m =
 
 pub record Motifs : Type 0 where
   pub motif_read : (m : MotifEntry) → LawfulMotif m → MotifRead m
-  pub motif-taken : (m : MotifEntry) → LawfulMotif m → MotifTaken m
+  pub motif_taken : (m : MotifEntry) → LawfulMotif m → MotifTaken m

@@ -47,7 +47,7 @@ leg_tokens at (s ∷ ss) =
 
 -- the numbers of a net keep their limits, its names are names, it has its shape, and it is read back name by name and range by range
 pub record Nets : Type 0 where
-  pub net-sound : (n : List ℕ) (ss : List Leg) → is_name n ≡ true → All LawfulLeg ss → first_fault_of is_numeral (is_number Shift) (net_text n ss) ≡ None
-  pub net-named : (n : List ℕ) (ss : List Leg) → is_name n ≡ true → All LawfulLeg ss → first_fault_of is_any_letter is_name (net_text n ss) ≡ None
-  pub net-shaped : (n : List ℕ) (ss : List Leg) → is_name n ≡ true → All LawfulLeg ss → misfit net (net_text n ss) ≡ None
-  pub net-back : (n : List ℕ) (ss : List Leg) → is_name n ≡ true → All LawfulLeg ss → net_tokens (net_text n ss) ≡ name 0 n ∷ leg_tokens (0 + length n + 1) ss
+  pub net_sound : (n : List ℕ) (ss : List Leg) → is_name n ≡ true → All LawfulLeg ss → first_fault_of is_numeral (is_number Shift) (net_text n ss) ≡ None
+  pub net_named : (n : List ℕ) (ss : List Leg) → is_name n ≡ true → All LawfulLeg ss → first_fault_of is_any_letter is_name (net_text n ss) ≡ None
+  pub net_shaped : (n : List ℕ) (ss : List Leg) → is_name n ≡ true → All LawfulLeg ss → misfit net (net_text n ss) ≡ None
+  pub net_back : (n : List ℕ) (ss : List Leg) → is_name n ≡ true → All LawfulLeg ss → net_tokens (net_text n ss) ≡ name 0 n ∷ leg_tokens (0 + length n + 1) ss

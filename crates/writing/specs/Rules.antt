@@ -57,4 +57,4 @@ RuleTaken p r =
 
 pub record Rules : Type 0 where
   pub rule_read : (names : List (List ℕ)) (r : RuleEntry) → LawfulNames names → LawfulRule (length names) r → RuleRead names r
-  pub rule-taken : (p : Page) (r : RuleEntry) → LawfulNames (motif_names_in p) → LawfulRule (length (motif_names_in p)) r → RuleTaken p r
+  pub rule_taken : (p : Page) (r : RuleEntry) → LawfulNames (motif_names_in p) → LawfulRule (length (motif_names_in p)) r → RuleTaken p r

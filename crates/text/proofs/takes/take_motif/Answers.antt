@@ -6,7 +6,7 @@ use Rattle.body.specs.Bodies.{body_of}
 use Rattle.text.specs.Pages.{Page, page_of}
 use Rattle.text.specs.Taking.{body_in, with_motif_taken, with_motif}
 use Rattle.text.specs.declared.faults.TextFault.TheVariants.{NameTaken}
-use Rattle.text.proofs.Adds.{kept, motif_added, motif-fault, motif-left, motif-taken, no_room, room, unchanged}
+use Rattle.text.proofs.Adds.{kept, motif_added, motif-fault, motif-left, motif_taken, no_room, room, unchanged}
 use Rattle.text.proofs.takes.take_motif.Goals as goal
 
 pub returns-then-is-taken : goal.returns-then-is-taken
@@ -15,7 +15,7 @@ returns-then-is-taken c =
     let n = c.args.name.now in
     let b = c.args.body.now in
     let t : taken n (motif_names (motifs_in h.book)) ≡ true = sym (c.if-is-taken.ensures ∙ ap (λ ms. taken n (motif_names ms)) c.motifs.ensures.value) in
-    let k = kept (page_of h) (page_of h) (with_motif_taken (page_of h) n c.args.weight b) NameTaken (motif-taken h n c.args.weight b t) refl in
+    let k = kept (page_of h) (page_of h) (with_motif_taken (page_of h) n c.args.weight b) NameTaken (motif_taken h n c.args.weight b t) refl in
     record { refused = k.refused; page = k.page }
 
 pub returns-in-Ok-add-motif : goal.returns-in-Ok-add-motif

@@ -9,7 +9,7 @@ use Rattle.text.specs.Nets.{net_in, steps_in}
 use Rattle.text.specs.Pages.{page_of}
 use Rattle.text.specs.Taking.{with_rule_taken, with_rule}
 use Rattle.text.specs.declared.faults.TextFault.TheVariants.{NameTaken, UnknownMotif}
-use Rattle.text.proofs.Adds.{kept, no_room, room, rule_added, rule-fault, rule-left, rule-taken, rule_unknown, unchanged}
+use Rattle.text.proofs.Adds.{kept, no_room, room, rule_added, rule-fault, rule-left, rule_taken, rule_unknown, unchanged}
 use Rattle.text.proofs.FirstName.{some-steps}
 use Rattle.text.proofs.Walks.{links-length}
 use Rattle.text.proofs.takes.take_rule.Goals as goal
@@ -20,7 +20,7 @@ returns-then-is-taken c =
     let n = c.args.name.now in
     let w = c.args.net.now in
     let t : taken n (rule_names (rules_in h.book)) ≡ true = sym (c.if-is-taken.ensures ∙ ap (λ rs. taken n (rule_names rs)) c.rules.ensures.value) in
-    let k = kept (page_of h) (page_of h) (with_rule_taken (page_of h) n w) NameTaken (rule-taken h n w t) refl in
+    let k = kept (page_of h) (page_of h) (with_rule_taken (page_of h) n w) NameTaken (rule_taken h n w t) refl in
     record { refused = k.refused; page = k.page }
 
 pub make-rule-requires : goal.make-rule-requires
