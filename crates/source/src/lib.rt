@@ -34,7 +34,7 @@ pub trait PricedSource: Source {
 
 // Whether (start, end) is a stretch of the motif, in any source: the questions tell the whole meaning.
 pub fn has_stretch<S: Source>(source: &S, motif: usize, start: usize, end: usize) -> bool
-    ensures { result ≡ (means source.now).has motif start end }
+    ensures { result ≡ (S.means source.now).has motif start end }
 {
     match source.next_end(motif, start, end) {
         Some(found) => found == end,
@@ -44,7 +44,7 @@ pub fn has_stretch<S: Source>(source: &S, motif: usize, start: usize, end: usize
 
 // What the first look of a step costs: the opening price and the look price.
 pub fn first_look<S: PricedSource>(source: &S, motif: usize) -> u32
-    ensures value { result ≡ (price source.now motif).opening + (price source.now motif).look }
+    ensures value { result ≡ (S.price source.now motif).opening + (S.price source.now motif).look }
     ensures bound { result ≤ 2000 }
 {
     let (look, opening) = source.prices(motif);

@@ -15,8 +15,8 @@ loop-k-init c = record { counted = refl; shown = λ i h. refl; undoes = refl; lo
 pub paint-requires : goal.paint-requires
 paint-requires c = record { part = (omega arith, omega (arith, c.loop-k.invariant.long)); room = omega (arith, fits (goal.at.paint-requires c).After-part-start, c.loop-k.invariant.room) }
 
-pub overflow-add-at : goal.overflow-add-at
-overflow-add-at c = omega (arith, fits (goal.at.overflow-add-at c).After-part-start)
+pub overflow_add-at : goal.overflow_add-at
+overflow_add-at c = omega (arith, fits (goal.at.overflow_add-at c).After-part-start)
 
 pub loop-k-preserved : goal.loop-k-preserved
 loop-k-preserved c =
