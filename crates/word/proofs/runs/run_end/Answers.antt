@@ -12,13 +12,13 @@ pub loop-end-preserved : goal.loop-end-preserved
 loop-end-preserved g c =
     let w = c.args.field.now in
     let part = g.S.Sort.part c.args.sort.now in
-    (omega arith, omega arith, passed-more part w c.args.from c.loop-end.end c.loop-end.invariant.0 c.loop-end-test.true (sym c.if-is-part.ensures) c.loop-end.invariant.2)
+    (omega arith, omega arith, passed-more part w c.args.from c.loop-end.end c.loop-end.invariant.0 c.loop-end-test.true (sym c.if-is_part.ensures) c.loop-end.invariant.2)
 
-pub returns-else-is-part : goal.returns-else-is-part
-returns-else-is-part g c =
+pub returns-else-is_part : goal.returns-else-is_part
+returns-else-is_part g c =
     let w = c.args.field.now in
     let part = g.S.Sort.part c.args.sort.now in
-    record { begins = c.loop-end.invariant.0; within = c.loop-end.invariant.1; run = passed_stop part w c.args.from c.loop-end.end c.loop-end-test.true (sym c.if-is-part.ensures) c.loop-end.invariant.2 }
+    record { begins = c.loop-end.invariant.0; within = c.loop-end.invariant.1; run = passed_stop part w c.args.from c.loop-end.end c.loop-end-test.true (sym c.if-is_part.ensures) c.loop-end.invariant.2 }
 
 pub returns-after-loop-end : goal.returns-after-loop-end
 returns-after-loop-end g c =

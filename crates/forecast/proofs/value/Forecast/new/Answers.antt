@@ -7,4 +7,4 @@ pub returns-then-boxes-gt20000 : goal.returns-then-boxes-gt20000
 returns-then-boxes-gt20000 c = record { refused = too_long c.args.boxes (number_at c.args.runs) c.if-boxes-gt20000.true; value = tt }
 
 pub invariant_of-result : goal.invariant_of-result
-invariant_of-result c = (c.if-boxes-gt20000.false, (all_small c.args.runs (sym c.some_large.ensures ∙ c.if-some_large.false), tt))
+invariant_of-result c = record { short = c.if-boxes-gt20000.false; small = all_small c.args.runs (sym c.some_large.ensures ∙ c.if-some_large.false) }

@@ -9,7 +9,10 @@ pub invariant_of-result : goal.invariant_of-result
 invariant_of-result c =
     let strip = c.args.strip.now in
     let m = c.args.m in
-    (c.if-m-gt12.false, (omega (arith, ap (λ z. boxes z m) c.copy_from_slice.ensures.after, boxes-front strip 24 m (omega arith), passed-small strip (length c.args.ink.now) m (sym c.if-not-all_pass.ensures)), tt))
+    record {
+      few = c.if-m-gt12.false;
+      small = omega (arith, ap (λ z. boxes z m) c.copy_from_slice.ensures.after, boxes-front strip 24 m (omega arith), passed-small strip (length c.args.ink.now) m (sym c.if-not-all_pass.ensures));
+    }
 
 pub returns : goal.returns
 returns c =

@@ -6,5 +6,5 @@ use Rattle.std.proofs.Common.{sym, subst}
 pub returns : goal.returns
 returns c =
     let s = c.args.self.now in
-    let v = c.as-slice.ensures.value in
+    let v = c.as_slice.ensures.value in
     record { value = v; apart = subst (λ xs. Unique (motif_names xs)) (sym v) (distinct_unique _ s.motifnames) }
