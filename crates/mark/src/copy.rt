@@ -17,7 +17,7 @@ impl MarkList {
             starts.push(Key::by_start(*mark))?;
             ends.push(Key::by_end(*mark))?;
         }
-        ends.sort();
+        ends.sort()?;
         Ok(MarkList { starts, ends })
     }
 }

@@ -3,8 +3,8 @@ use Rattle.std.proofs.lemmas.Fmt.{decimal_nonempty}
 use Rattle.lines.proofs.Decimals.{spelling_all, spelling_more, spelling_none, spelling_some}
 use Rattle.lines.proofs.decimal.put_digits.Goals as goal
 
-pub overflow-sub-i : goal.overflow-sub-i
-overflow-sub-i c = omega (arith, decimal_nonempty c.args.n (omega arith))
+pub overflow_sub-i : goal.overflow_sub-i
+overflow_sub-i c = omega (arith, decimal_nonempty c.args.n (omega arith))
 
 pub loop-rest-init : goal.loop-rest-init
 loop-rest-init c =
@@ -13,8 +13,8 @@ loop-rest-init c =
 pub bounds-out-i : goal.bounds-out-i
 bounds-out-i c = omega (arith, c.loop-rest.invariant.within, c.loop-rest.invariant.long)
 
-pub overflow-sub-i-in-loop-rest : goal.overflow-sub-i-in-loop-rest
-overflow-sub-i-in-loop-rest c =
+pub overflow_sub-i-in-loop-rest : goal.overflow_sub-i-in-loop-rest
+overflow_sub-i-in-loop-rest c =
     omega (arith, (spelling_some _ _ _ _ _ _ (omega arith) c.loop-rest-test.true c.loop-rest.invariant).1)
 
 pub loop-rest-preserved : goal.loop-rest-preserved

@@ -4,10 +4,10 @@ use Rattle.lines.proofs.write.write_line.Goals as goal
 
 pub returns-in-Some : goal.returns-in-Some
 returns-in-Some c =
-    closed-fits c.args.kind _ _ _ _ _ c.in-Some.ensures (omega arith) c.put-fields-end.ensures
+    closed-fits c.args.kind _ _ _ _ _ c.in-Some.ensures (omega arith) c.put_fields-end.ensures
 
-pub returns-in-default : goal.returns-in-default
-returns-in-default c = closed-short c.args.kind _ _ (omega (arith, c.in-Some.ensures))
+pub returns-in_default : goal.returns-in_default
+returns-in_default c = closed-short c.args.kind _ _ (omega (arith, c.in-Some.ensures))
 
-pub returns-in-default·2 : goal.returns-in-default·2
-returns-in-default·2 c = closed-short c.args.kind _ _ (omega (arith, c.in-default.ensures))
+pub returns-in_default-2 : goal.returns-in_default-2
+returns-in_default-2 c = closed-short c.args.kind _ _ (omega (arith, c.in_default.ensures))

@@ -16,11 +16,11 @@ returns-in-Ok c = found c.args.keys.now c.requires c.args.asked c.in-Ok.field-0 
 pub returns-in-Some : goal.returns-in-Some
 returns-in-Some c = next c.args.keys.now c.requires c.args.asked c.in-Err.place (parted (goal.at.returns-in-Some c).In-Err) c.in-Some.key.now c.in-Some.ensures.lookup.3 c.if-key-asked.true c.if-key-asked-2.true
 
-pub returns-in-default : goal.returns-in-default
-returns-in-default c = none_other c.args.keys.now c.requires c.args.asked c.in-Err.place (parted (goal.at.returns-in-default c).In-Err) c.in-Some.key.now c.in-Some.ensures.lookup.3 (λ _ q. c.if-key-asked-2.false q)
+pub returns-in_default : goal.returns-in_default
+returns-in_default c = none_other c.args.keys.now c.requires c.args.asked c.in-Err.place (parted (goal.at.returns-in_default c).In-Err) c.in-Some.key.now c.in-Some.ensures.lookup.3 (λ _ q. c.if-key-asked-2.false q)
 
-pub returns-in-default·2 : goal.returns-in-default·2
-returns-in-default·2 c = none_other c.args.keys.now c.requires c.args.asked c.in-Err.place (parted (goal.at.returns-in-default·2 c).In-Err) c.in-Some.key.now c.in-Some.ensures.lookup.3 (λ p _. c.if-key-asked.false p)
+pub returns-in_default-2 : goal.returns-in_default-2
+returns-in_default-2 c = none_other c.args.keys.now c.requires c.args.asked c.in-Err.place (parted (goal.at.returns-in_default-2 c).In-Err) c.in-Some.key.now c.in-Some.ensures.lookup.3 (λ p _. c.if-key-asked.false p)
 
-pub returns-in-default·3 : goal.returns-in-default·3
-returns-in-default·3 c = none_past c.args.keys.now c.requires c.args.asked c.in-Err.place (parted (goal.at.returns-in-default·3 c).In-Err) c.in-default.ensures.lookup.3
+pub returns-in_default-3 : goal.returns-in_default-3
+returns-in_default-3 c = none_past c.args.keys.now c.requires c.args.asked c.in-Err.place (parted (goal.at.returns-in_default-3 c).In-Err) c.in_default.ensures.lookup.3

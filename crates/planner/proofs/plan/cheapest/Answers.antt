@@ -6,5 +6,5 @@ use Rattle.planner.proofs.plan.cheapest.Goals as goal
 
 pub returns : goal.returns
 returns c =
-    planned (terms_of c.args.tariff.now c.args.forecast.now) (number_at c.least-prices-costs.result) c.best-seed-seed.result.0 c.best-seed-seed.result.1
-    (letters_of c.best-letters-letters.result) c.least-prices-costs.ensures c.best-seed-seed.ensures c.best-letters-letters.ensures
+    planned (terms_of c.args.tariff.now c.args.forecast.now) (number_at c.least_prices-costs.result) c.best_seed-seed.result.0 c.best_seed-seed.result.1
+    (letters_of c.best_letters-letters.result) c.least_prices-costs.ensures c.best_seed-seed.ensures c.best_letters-letters.ensures

@@ -8,8 +8,8 @@ returns-then-first-eq1 c =
     let t = terms_of c.args.tariff.now c.args.forecast.now in
     let more : c.args.last + 1 ≤ t.motifs = omega arith in
     let r = c.requires.right more in (
-      only_R t c.args.first c.args.last (omega arith) more r.least c.way-price-price.ensures.value,
-      omega (arith, r.bound, c.way-price-price.ensures.bound),
+      only_R t c.args.first c.args.last (omega arith) more r.least c.way_price-price.ensures.value,
+      omega (arith, r.bound, c.way_price-price.ensures.bound),
     )
 
 pub returns-then-right-left : goal.returns-then-right-left
@@ -19,8 +19,8 @@ returns-then-right-left c =
     let more : c.args.last + 1 ≤ t.motifs = omega arith in
     let l = c.requires.left some in
     let r = c.requires.right more in (
-      both_R t c.args.first c.args.last more l.least r.least c.way-price-left.ensures.value c.way-price-right.ensures.value c.if-right-left.true,
-      omega (arith, r.bound, c.way-price-right.ensures.bound),
+      both_R t c.args.first c.args.last more l.least r.least c.way_price-left.ensures.value c.way_price-right.ensures.value c.if-right-left.true,
+      omega (arith, r.bound, c.way_price-right.ensures.bound),
     )
 
 pub returns-else-right-left : goal.returns-else-right-left
@@ -30,8 +30,8 @@ returns-else-right-left c =
     let more : c.args.last + 1 ≤ t.motifs = omega arith in
     let l = c.requires.left some in
     let r = c.requires.right more in (
-      both_L t c.args.first c.args.last some l.least r.least c.way-price-left.ensures.value c.way-price-right.ensures.value c.if-right-left.false,
-      omega (arith, l.bound, c.way-price-left.ensures.bound),
+      both_L t c.args.first c.args.last some l.least r.least c.way_price-left.ensures.value c.way_price-right.ensures.value c.if-right-left.false,
+      omega (arith, l.bound, c.way_price-left.ensures.bound),
     )
 
 pub returns-else-more : goal.returns-else-more
@@ -39,6 +39,6 @@ returns-else-more c =
     let t = terms_of c.args.tariff.now c.args.forecast.now in
     let some : 2 ≤ c.args.first = omega arith in
     let l = c.requires.left some in (
-      only_L t c.args.first c.args.last some (omega arith) l.least c.way-price-left.ensures.value,
-      omega (arith, l.bound, c.way-price-left.ensures.bound),
+      only_L t c.args.first c.args.last some (omega arith) l.least c.way_price-left.ensures.value,
+      omega (arith, l.bound, c.way_price-left.ensures.bound),
     )

@@ -26,10 +26,10 @@ loop-last-preserved c =
           let lead = w.in-Some.ensures in
           let l : Least t first k w.in-Some.next.price =
           led t costs first k w.in-Some.next.letter w.in-Some.next.price lead.0 (λ left. rows (first - 1) k (omega arith) (omega arith) (omega arith) within) (λ more. row (k + 1) (omega arith) more) in
-          turn (subst (Least t first k) (sym w.price_is) l) (omega (arith, lead.1, w.price_is))
+          turn (subst (Least t first k) (sym w.price-is) l) (omega (arith, lead.1, w.price-is))
       | in-None w ↦
           let end = w.in-None.ensures in
-          turn (subst (Least t first k) (sym w.price_is) (ended t costs first k end.0 end.1)) (omega (arith, w.price_is))
+          turn (subst (Least t first k) (sym w.price-is) (ended t costs first k end.0 end.1)) (omega (arith, w.price-is))
     ]
 
 pub loop-first-preserved : goal.loop-first-preserved

@@ -12,13 +12,13 @@ returns c =
     let few : c.at.result ≤ 1_000_000_000 = c.at.ensures.bound in
     elim c.match-letter.branch [
       | in-L w ↦
-          let taken = w.taking-price-taking.ensures in
+          let taken = w.taking_price-taking.ensures in
           let value = taken.value in
           let here = ap price w.in-L.is in
           let cheap : c.match-letter.taking ≤ 4_002_000 = omega (arith, taken.bound, w.taking-is) in
           record { value = cc; bound = mul-le-mul few cheap }
       | in-R w ↦
-          let taken = w.taking-price-taking-in-R.ensures in
+          let taken = w.taking_price-taking-in-R.ensures in
           let value = taken.value in
           let here = ap price w.in-R.is in
           let cheap : c.match-letter.taking ≤ 4_002_000 = omega (arith, taken.bound, w.taking-is) in

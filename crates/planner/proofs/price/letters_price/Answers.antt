@@ -9,8 +9,8 @@ use Rattle.planner.proofs.Walked.{can, walked_L, walked_R}
 use Rattle.planner.proofs.price.letters_price.Goals as goal
 use Rattle.planner.proofs.price.letters_price.Goals.{in-L, in-R}
 
-pub letter-price-price-requires : goal.letter-price-price-requires
-letter-price-price-requires c =
+pub letter_price-price-requires : goal.letter_price-price-requires
+letter_price-price-requires c =
     let t = terms_of c.args.tariff.now c.args.forecast.now in
     let xs = c.args.letters.now in
     let i = c.loop-letter.letter-index in
@@ -29,8 +29,8 @@ loop-letter-preserved c =
     let i = c.loop-letter.letter-index in
     let cut = drop_more xs i L c.loop-letter-test.true in
     elim c.match-letter.branch [
-      | in-L w ↦ walked_L _ _ _ _ _ _ _ _ _ _ cut c.loop-letter.invariant c.letter-price-price.ensures.value c.letter-price-price.ensures.bound w.in-L.is _ _ w.first_is w.last-is
-      | in-R w ↦ walked_R _ _ _ _ _ _ _ _ _ _ cut c.loop-letter.invariant c.letter-price-price.ensures.value c.letter-price-price.ensures.bound w.in-R.is _ _ w.first_is w.last-is
+      | in-L w ↦ walked_L _ _ _ _ _ _ _ _ _ _ cut c.loop-letter.invariant c.letter_price-price.ensures.value c.letter_price-price.ensures.bound w.in-L.is _ _ w.first-is w.last-is
+      | in-R w ↦ walked_R _ _ _ _ _ _ _ _ _ _ cut c.loop-letter.invariant c.letter_price-price.ensures.value c.letter_price-price.ensures.bound w.in-R.is _ _ w.first-is w.last-is
     ]
 
 pub returns : goal.returns

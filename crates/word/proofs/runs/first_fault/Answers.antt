@@ -27,7 +27,7 @@ loop-i-preserved g c =
     let p = c.is_part-part.result in
     let go = λ (b : Bool). fault_from part sound (i + 1) b (drop (i + 1) w) in
     elim c.if-part.branch [
-      | goal.then-part+then-not-inside+else-not-is-sound v ↦ (
+      | goal.then-part+then-not-inside+else-not-is_sound v ↦ (
           let run : between i v.run_end-end.result w ≡ front part (drop i w) = v.run_end-end.ensures.run in
           ap go (v.inside-is ∙ v.if-part.true) ∙ fault_on part sound w i c.loop-i.inside h v.if-part.ensures (v.if-not-is_sound.ensures ∙ ap sound run) ∙ c.loop-i.invariant)
       | goal.else-part v ↦ ap go v.inside-is ∙ fault_past part sound w i c.loop-i.inside h p c.is_part-part.ensures (none-begins p c.loop-i.inside v.else-part.either) ∙ c.loop-i.invariant

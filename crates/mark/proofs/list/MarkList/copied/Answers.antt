@@ -8,12 +8,12 @@ pub loop-mark-preserved : goal.loop-mark-preserved
 loop-mark-preserved c =
     let ms = c.args.marks.now in
     let i = c.loop-mark.mark-index in (
-      keyed_more start_key ms i _ (vec_items c.loop-mark.starts) (vec_items c.push.new.self) c.by-start.result c.loop-mark-test.true c.loop-mark.invariant.0 c.by-start.ensures c.in-ok-push.ensures.items,
-      keyed_more end_key ms i _ (vec_items c.loop-mark.ends) (vec_items c.push-in-loop-mark.new.self) c.by-end.result c.loop-mark-test.true c.loop-mark.invariant.1 c.by-end.ensures c.in-ok-push-2.ensures.items,
+      keyed_more start_key ms i _ (vec_items c.loop-mark.starts) (vec_items c.push.new.self) c.by_start.result c.loop-mark-test.true c.loop-mark.invariant.0 c.by_start.ensures c.in_ok-push.ensures.items,
+      keyed_more end_key ms i _ (vec_items c.loop-mark.ends) (vec_items c.push-in-loop-mark.new.self) c.by_end.result c.loop-mark-test.true c.loop-mark.invariant.1 c.by_end.ensures c.in_ok-push-2.ensures.items,
     )
 
-pub invariant-of-result : goal.invariant-of-result
-invariant-of-result c =
+pub invariant_of-result : goal.invariant_of-result
+invariant_of-result c =
     let ms = c.args.marks.now in
     let i = c.loop-mark.mark-index in
     let starts = vec_items c.loop-mark.starts in

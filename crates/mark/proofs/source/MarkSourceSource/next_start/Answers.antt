@@ -11,6 +11,6 @@ returns c =
     let l = c.args.self.now.tested.list in
     let k = c.args.motif in
     let b = c.args.end in
-    least-alike (λ a. any_key c.as-slice.result.now k b a) (λ a. any_mark (listed l) k a b) c.args.least c.least-wanted.result
-    (λ a. ap (λ xs. any_key xs k b a) c.as-slice.ensures.value ∙ l.same k a b ∙ any-start (vec_items l.starts) k a b)
-    c.least-wanted.ensures
+    least-alike (λ a. any_key c.as_slice.result.now k b a) (λ a. any_mark (listed l) k a b) c.args.least c.least_wanted.result
+    (λ a. ap (λ xs. any_key xs k b a) c.as_slice.ensures.value ∙ l.same k a b ∙ any-start (vec_items l.starts) k a b)
+    c.least_wanted.ensures
