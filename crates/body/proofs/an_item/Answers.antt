@@ -13,4 +13,4 @@ returns-in-91 c =
     let long : 0 < length w = search rules in
     let first : get_or w 0 0 ≡ 91 = search rules in
     let split : w ≡ 91 ∷ between 1 (length w) w = first_rest w 0 long ∙ ap (λ x. x ∷ between 1 (length w) w) first in
-    c.in-class.ensures ∙ ap (λ cs. inside_class es cs (between 1 (length w) w)) c.none.ensures.kept ∙ sym (bracket es w (between 1 (length w) w) split)
+    c.in_class.ensures ∙ ap (λ cs. inside_class es cs (between 1 (length w) w)) c.none.ensures.kept ∙ sym (bracket es w (between 1 (length w) w) split)

@@ -10,4 +10,4 @@ returns-in-60 c =
     let long : 0 < length w = search rules in
     let first : get_or w 0 0 ≡ 60 = search rules in
     let split : w ≡ 60 ∷ between 1 (length w) w = first_rest w 0 long ∙ ap (λ x. x ∷ between 1 (length w) w) first in
-    c.read-number.ensures ∙ sym (ap low_of split)
+    c.read_number.ensures ∙ sym (ap low_of split)

@@ -25,7 +25,7 @@ returns-else-codes-ge8 c =
     let long : length es ≡ s.len = mapped_length entry_of s.items s.len room in
     let is : class_kept c.args.self.class ≡ Some (codes_kept k) = ap class_kept c.in-Some.is in
     let few : leb 8 (length (codes_kept k)) ≡ false = lt-leb 8 (length (codes_kept k)) (omega (arith, length-take-le k.len k.codes room-k)) in
-    record { place = tt; value = ap Ok (c.in-class.ensures ∙ sym (ap (λ x. go_on es x p) is)) ∙ under c.args.at es (class_kept c.args.self.class) p (omega (arith, long)) (ap full is ∙ few) }
+    record { place = tt; value = ap Ok (c.in_class.ensures ∙ sym (ap (λ x. go_on es x p) is)) ∙ under c.args.at es (class_kept c.args.self.class) p (omega (arith, long)) (ap full is ∙ few) }
 
 pub returns-in-None : goal.returns-in-None
 returns-in-None c =
@@ -35,4 +35,4 @@ returns-in-None c =
     let room : s.len ≤ length s.items = search rules in
     let long : length es ≡ s.len = mapped_length entry_of s.items s.len room in
     let is : class_kept c.args.self.class ≡ None = ap class_kept c.in-None.is in
-    record { place = tt; value = ap Ok (c.an-item.ensures ∙ sym (ap (λ x. go_on es x p) is)) ∙ under c.args.at es (class_kept c.args.self.class) p (omega (arith, long)) (ap full is) }
+    record { place = tt; value = ap Ok (c.an_item.ensures ∙ sym (ap (λ x. go_on es x p) is)) ∙ under c.args.at es (class_kept c.args.self.class) p (omega (arith, long)) (ap full is) }
