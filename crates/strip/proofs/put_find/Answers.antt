@@ -5,4 +5,4 @@ use Rattle.strip.proofs.put_find.Goals as goal
 pub returns : goal.returns
 returns c =
     let run = c.args.run.now in
-    c.put-zeros.ensures ∙ put_all run c.args.strip.now c.put-stretches.new.strip (2 * length run) refl (omega (arith, c.requires.few)) c.put-stretches.ensures
+    c.put_zeros.ensures ∙ put_all run c.args.strip.now c.put_stretches.new.strip (2 * length run) refl (omega (arith, c.requires.few)) c.put_stretches.ensures

@@ -16,7 +16,7 @@ returns g c =
     let p = c.cheapest.result in
     let terms = terms_by P (net_of c.in-Some.rule.now) f in
     let planned : IsPlanned terms p.seed (letters_of p.letters) p.price =
-    same-plan (terms_of c.tariff-of.result f) terms (c.tariff-of.ensures f) p.seed (letters_of p.letters) p.price c.cheapest.ensures in
+    same-plan (terms_of c.tariff_of.result f) terms (c.tariff_of.ensures f) p.seed (letters_of p.letters) p.price c.cheapest.ensures in
     record {
       value = subst (λ r. PlanAnswer P r f (Ok p)) c.in-Some.ensures planned;
       only = subst (λ r. PlansOnly P r f p) c.in-Some.ensures (only_one terms p.seed (letters_of p.letters) p.price planned);

@@ -15,7 +15,7 @@ loop-i-preserved g c =
     let price = g.S.PricedSource.price c.args.source.now in
     let charges = c.loop-i.charges in
     let i = c.loop-i.i in
-    let x = c.charge-of.result in
+    let x = c.charge_of.result in
     let inv = c.loop-i.invariant in
     let is = c.motifs-motif-items.ensures in
     let more : i < r.len = omega (arith, c.loop-i-test.true, ap length is, motifs-length r) in
@@ -25,8 +25,8 @@ loop-i-preserved g c =
     ap (λ ms. get_or ms i 0) is ∙ subst (λ n. get_or (motifs_of r) n 0 ≡ motif net (i + 1)) back (rule-motif r (i + 1) (omega arith) (omega arith)) in (
       length-set charges i x ∙ inv.0,
       record {
-        look = filled (λ (y : Charge). y.look) (λ k. (price (motif net (k + 1))).look) 0 charges i x lt (c.charge-of.ensures.look ∙ ap (λ m. (price m).look) here) inv.1.look;
-        opening = filled (λ (y : Charge). y.opening) (λ k. (price (motif net (k + 1))).opening) 0 charges i x lt (c.charge-of.ensures.opening ∙ ap (λ m. (price m).opening) here) inv.1.opening;
+        look = filled (λ (y : Charge). y.look) (λ k. (price (motif net (k + 1))).look) 0 charges i x lt (c.charge_of.ensures.look ∙ ap (λ m. (price m).look) here) inv.1.look;
+        opening = filled (λ (y : Charge). y.opening) (λ k. (price (motif net (k + 1))).opening) 0 charges i x lt (c.charge_of.ensures.opening ∙ ap (λ m. (price m).opening) here) inv.1.opening;
       },
     )
 

@@ -15,8 +15,8 @@ returns g c f =
     record {
       motifs = omega (arith, many, rule-motifs r);
       boxes = refl;
-      look = λ i some within. c.charges-of.ensures.look (i - 1) (omega (arith, many)) ∙ ap (λ n. (price (motif net n)).look) (back i some);
-      opening = λ i some within. c.charges-of.ensures.opening (i - 1) (omega (arith, many)) ∙ ap (λ n. (price (motif net n)).opening) (back i some);
-      width = λ k some within. c.widths-of.ensures (k - 1) (omega (arith, many)) ∙ ap (λ n. width (range net n)) (back k some);
+      look = λ i some within. c.charges_of.ensures.look (i - 1) (omega (arith, many)) ∙ ap (λ n. (price (motif net n)).look) (back i some);
+      opening = λ i some within. c.charges_of.ensures.opening (i - 1) (omega (arith, many)) ∙ ap (λ n. (price (motif net n)).opening) (back i some);
+      width = λ k some within. c.widths_of.ensures (k - 1) (omega (arith, many)) ∙ ap (λ n. width (range net n)) (back k some);
       forecast = λ i j some le within. refl;
     }

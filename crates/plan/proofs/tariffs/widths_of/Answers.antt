@@ -13,7 +13,7 @@ loop-i-preserved c =
     let net = net_of r in
     let widths = c.loop-i.widths in
     let i = c.loop-i.i in
-    let x = c.width-of.result in
+    let x = c.width_of.result in
     let d = c.range-item.result in
     let inv = c.loop-i.invariant in
     let is = c.ranges-range-items.ensures in
@@ -22,7 +22,7 @@ loop-i-preserved c =
     let back : i + 1 - 1 ≡ i = omega arith in
     let here : span_of d ≡ range net (i + 1) =
     ap span_of (c.range-item.is ∙ ap (λ gs. get_or gs i d) is) ∙ subst (λ n. span_of (get_or (ranges_of r) n d) ≡ range net (i + 1)) back (rule-range r (i + 1) d (omega arith) (omega arith)) in
-    (length-set widths i x ∙ inv.0, filled (λ (y : Width). y.places) (λ k. width (range net (k + 1))) 0 widths i x lt (c.width-of.ensures ∙ ap width here) inv.1)
+    (length-set widths i x ∙ inv.0, filled (λ (y : Width). y.places) (λ k. width (range net (k + 1))) 0 widths i x lt (c.width_of.ensures ∙ ap width here) inv.1)
 
 pub returns : goal.returns
 returns c =

@@ -12,8 +12,8 @@ pub returns-then-boxes-gt20000 : goal.returns-then-boxes-gt20000
 returns-then-boxes-gt20000 c =
     record { refused = too_many (weight_in c.args.book.now) c.args.boxes (rule_numbered (nets_in c.args.book.now) c.args.rule) c.if-boxes-gt20000.true; value = tt }
 
-pub weigh-runs-requires : goal.weigh-runs-requires
-weigh-runs-requires c =
+pub weigh_runs-requires : goal.weigh_runs-requires
+weigh_runs-requires c =
     record { short = c.if-boxes-gt20000.false; known = known_in c.args.book.now c.args.rule (net_of c.in-Some.rule.now) c.in-Some.ensures }
 
 pub returns-in-ok-runs : goal.returns-in-ok-runs

@@ -8,8 +8,8 @@ use Rattle.plan.specs.Weighed.{weighed, weight_in}
 use Rattle.plan.proofs.Weighing.{weigh_first, weigh_next}
 use Rattle.plan.proofs.weighs.weigh_run.Goals as goal
 
-pub weight-of-requires : goal.weight-of-requires
-weight-of-requires c =
+pub weight_of-requires : goal.weight_of-requires
+weight_of-requires c =
     let r = c.args.rule.now in
     let j = c.args.last in
     let some : 1 ≤ j = omega (arith, c.requires.some, c.requires.ordered) in
@@ -24,14 +24,14 @@ returns-then-first-last c =
     let W = weight_in c.args.book.now in
     let some : 1 ≤ j = omega (arith, c.requires.some, c.requires.ordered) in
     let here : get_or c.motifs.result.now (j - 1) 0 ≡ motif (net_of r) j = ap (λ ms. get_or ms (j - 1) 0) c.motifs.ensures ∙ rule-motif r j some c.requires.within in
-    let weight : c.from-weight.result ≡ W (motif (net_of r) j) = c.from-weight.ensures ∙ c.weight-of.ensures ∙ ap W here in
+    let weight : c.from-weight.result ≡ W (motif (net_of r) j) = c.from-weight.ensures ∙ c.weight_of.ensures ∙ ap W here in
     ap (λ w. (n + 1) * w / 65536) weight ∙ weigh_first W n (net_of r) c.args.first j c.requires.some c.if-first-last.true (omega (arith, c.requires.within, rule-motifs r))
 
-pub overflow-mul-result-3 : goal.overflow-mul-result-3
-overflow-mul-result-3 c =
+pub overflow_mul-result-3 : goal.overflow_mul-result-3
+overflow_mul-result-3 c =
     let few : c.at.result ≤ 1_000_000_000 = omega (arith, c.at.ensures, c.requires.small) in
     let wide : c.width-width.result ≤ 4001 = c.width-width.ensures.bound.1 in
-    let light : c.from-weight.result ≤ 65535 = omega (arith, c.from-weight.ensures, c.weight-of.type-inv) in
+    let light : c.from-weight.result ≤ 65535 = omega (arith, c.from-weight.ensures, c.weight_of.type-inv) in
     omega (arith, mul-le-mul (mul-le-mul few wide) light)
 
 pub returns : goal.returns
@@ -44,7 +44,7 @@ returns c =
     let lt : i < j = omega (arith, c.requires.ordered, c.if-first-last.false) in
     let some : 1 ≤ j = omega (arith, c.requires.some, c.requires.ordered) in
     let here : get_or c.motifs.result.now (j - 1) 0 ≡ motif (net_of r) j = ap (λ ms. get_or ms (j - 1) 0) c.motifs.ensures ∙ rule-motif r j some c.requires.within in
-    let weight : c.from-weight.result ≡ W (motif (net_of r) j) = c.from-weight.ensures ∙ c.weight-of.ensures ∙ ap W here in
+    let weight : c.from-weight.result ≡ W (motif (net_of r) j) = c.from-weight.ensures ∙ c.weight_of.ensures ∙ ap W here in
     let d = c.index-ranges-last.result in
     let back : j - 1 - 1 ≡ j - 2 = omega arith in
     let span : span_of d ≡ range (net_of r) (j - 1) =

@@ -21,8 +21,8 @@ loop-first-preserved c =
     let end : c.loop-last.last ≡ length r.rest + 1 + 1 = omega (arith, c.loop-last-test.false, c.loop-last.auto.last-end, ap length c.motifs.ensures, motifs-length c.args.rule.now, rule-motifs c.args.rule.now) in
     next (weighed W c.args.boxes r) (length r.rest + 1) (no_run W c.args.boxes r) (number_at c.loop-last.runs) c.loop-first.first c.loop-last.last end c.loop-last.invariant
 
-pub weigh-run-number-requires : goal.weigh-run-number-requires
-weigh-run-number-requires c =
+pub weigh_run-number-requires : goal.weigh_run-number-requires
+weigh_run-number-requires c =
     let r = net_of c.args.rule.now in
     let W = weight_in c.args.book.now in
     record {
@@ -40,7 +40,7 @@ returns-then-number-gt1000000000 c =
     let r = net_of c.args.rule.now in
     let W = weight_in c.args.book.now in
     let few : c.loop-last.last ≤ 12 = omega (arith, c.loop-last-test.true, ap length c.motifs.ensures, motifs-length c.args.rule.now, c.args.rule.now.few) in
-    (refl, large (weighed W c.args.boxes r) c.loop-first.first c.loop-last.last c.loop-first.auto.first c.loop-last.auto.last few (omega (arith, c.weigh-run-number.ensures, c.if-number-gt1000000000.true)))
+    (refl, large (weighed W c.args.boxes r) c.loop-first.first c.loop-last.last c.loop-first.auto.first c.loop-last.auto.last few (omega (arith, c.weigh_run-number.ensures, c.if-number-gt1000000000.true)))
 
 pub loop-last-preserved : goal.loop-last-preserved
 loop-last-preserved c =
@@ -51,8 +51,8 @@ loop-last-preserved c =
     let j = c.loop-last.last in
     let few : j ≤ 12 = omega (arith, c.loop-last-test.true, ap length c.motifs.ensures, motifs-length c.args.rule.now, c.args.rule.now.few) in
     more F (length r.rest + 1) (no_run W c.args.boxes r) c.loop-last.runs c.put.new.self i j
-    (subst (λ x. Put i j x c.loop-last.runs c.put.new.self) c.weigh-run-number.ensures c.put.ensures)
-    c.loop-first.auto.first c.loop-last.auto.last few (omega (arith, c.weigh-run-number.ensures, c.if-number-gt1000000000.false)) c.loop-last.invariant
+    (subst (λ x. Put i j x c.loop-last.runs c.put.new.self) c.weigh_run-number.ensures c.put.ensures)
+    c.loop-first.auto.first c.loop-last.auto.last few (omega (arith, c.weigh_run-number.ensures, c.if-number-gt1000000000.false)) c.loop-last.invariant
 
 pub returns : goal.returns
 returns c =
