@@ -6,7 +6,7 @@ ghost use Rattle.std.specs.Prelude.{◌≡◌, ◌+◌, ◌-◌, ◌*◌, ◌<�
 ghost use Rattle.refusal.specs.Checks.{refuse, refused_by};
 ghost use Rattle.refusal.specs.declared.Refusal.TheVariants.{ShortStrip};
 ghost use Rattle.sheet_model.specs.Strip.{numbers_of, stretches_of, written};
-ghost use Rattle.stack.specs.Frames.{find_of, stretch_of as frameStretch};
+ghost use Rattle.stack.specs.Frames.{find_of, stretch_of as frame_stretch};
 ghost use Rattle.stack.specs.Searches.{made_of};
 ghost use Rattle.strip.specs.Finds.{grown_list, stretch_of, written_list};
 
@@ -20,7 +20,7 @@ use walk::Letter;
 // Adds the frame's stretch to a run, on its side.
 fn add_stretch(run: &mut Vec<Stretch>, f: Frame)
     requires { vec_len run.old < vec_capacity run.old }
-    ensures items { map stretch_of run.new.items ≡ grown_list f.letter (map stretch_of run.old.items) (frameStretch f) }
+    ensures items { map stretch_of run.new.items ≡ grown_list f.letter (map stretch_of run.old.items) (frame_stretch f) }
     ensures len { vec_len run.new ≡ vec_len run.old + 1 }
     ensures room { vec_capacity run.old ≤ vec_capacity run.new }
 {

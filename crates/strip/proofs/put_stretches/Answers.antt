@@ -9,7 +9,7 @@ pub loop-i-preserved : goal.loop-i-preserved
 loop-i-preserved c =
     let run = c.args.run.now in
     let i = c.loop-i.i in
-    put-more run c.args.strip.now c.loop-i.strip i (get_or run i (record { start = 0; end = 0 })) c.loop-i-test.true (omega (arith, c.requires.0, c.requires.1)) (take_more run i (record { start = 0; end = 0 }) c.loop-i-test.true) c.loop-i.invariant
+    put-more run c.args.strip.now c.loop-i.strip i (get_or run i (record { start = 0; end = 0 })) c.loop-i-test.true (omega (arith, c.requires.run_len_bound, c.requires.in_bounds)) (take_more run i (record { start = 0; end = 0 }) c.loop-i-test.true) c.loop-i.invariant
 
 pub returns : goal.returns
 returns c =

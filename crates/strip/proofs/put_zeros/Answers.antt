@@ -7,4 +7,4 @@ loop-k-init c = zero_none c.args.strip.now c.args.from
 
 pub loop-k-preserved : goal.loop-k-preserved
 loop-k-preserved c =
-    zero_more c.args.strip.now c.loop-k.strip c.args.from c.loop-k.k (search rules) (omega (arith, c.loop-k-test.true, c.requires.1)) c.loop-k.invariant
+    zero_more c.args.strip.now c.loop-k.strip c.args.from c.loop-k.k (search rules) (omega (arith, c.loop-k-test.true, c.requires.in_bounds)) c.loop-k.invariant

@@ -6,7 +6,7 @@ use Rattle.line.proofs.reads.field_at.Goals as goal
 pub invariant_of-result : goal.invariant_of-result
 invariant_of-result c =
     let p : Part 44 c.args.line.now c.args.from c.part_end-to.result = c.part_end-to.ensures.inside (within c.args.line.now c.args.from c.requires) in
-    (p.from, (p.within, tt))
+    record { ordered = p.from; within = p.within }
 
 pub returns : goal.returns
 returns c =

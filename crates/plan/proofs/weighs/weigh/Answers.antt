@@ -16,11 +16,11 @@ pub weigh_runs-requires : goal.weigh_runs-requires
 weigh_runs-requires c =
     record { short = c.if-boxes-gt20000.false; known = known_in c.args.book.now c.args.rule (net_of c.in-Some.rule.now) c.in-Some.ensures }
 
-pub returns-in-ok-runs : goal.returns-in-ok-runs
-returns-in-ok-runs c =
+pub returns-in_ok-runs-in-Some : goal.returns-in_ok-runs-in-Some
+returns-in_ok-runs-in-Some c =
     let W = weight_in c.args.book.now in
     let n = c.args.boxes in
     let x = c.new.result in
     let h = subst (λ r. WeighAnswer W n r x) c.in-Some.ensures
-    (weighed_ok W n (net_of c.in-Some.rule.now) c.in-ok-runs.runs c.if-boxes-gt20000.false c.in-ok-runs.ensures x c.new.ensures.refused c.new.ensures.value) in
+    (weighed_ok W n (net_of c.in-Some.rule.now) c.in_ok-runs-in-Some.runs c.if-boxes-gt20000.false c.in_ok-runs-in-Some.ensures x c.new.ensures.refused c.new.ensures.value) in
     record { refused = h.0; value = h.1 }

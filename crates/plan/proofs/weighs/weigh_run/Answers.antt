@@ -31,7 +31,7 @@ pub overflow_mul-result-3 : goal.overflow_mul-result-3
 overflow_mul-result-3 c =
     let few : c.at.result ≤ 1_000_000_000 = omega (arith, c.at.ensures, c.requires.small) in
     let wide : c.width-width.result ≤ 4001 = c.width-width.ensures.bound.1 in
-    let light : c.from-weight.result ≤ 65535 = omega (arith, c.from-weight.ensures, c.weight_of.type-inv) in
+    let light : c.from-weight.result ≤ 65535 = omega (arith, c.from-weight.ensures, c.weight_of.type_inv) in
     omega (arith, mul-le-mul (mul-le-mul few wide) light)
 
 pub returns : goal.returns

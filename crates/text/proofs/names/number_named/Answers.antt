@@ -4,8 +4,8 @@ use Rattle.std.specs.Str.{bytes_eq}
 use Rattle.text.proofs.Lookups.{named_end, named_on}
 use Rattle.text.proofs.names.number_named.Goals as goal
 
-pub returns-then-same-letters : goal.returns-then-same-letters
-returns-then-same-letters g c =
+pub returns-then-same_letters : goal.returns-then-same_letters
+returns-then-same_letters g c =
     let f = g.T.Named.called in
     let xs = c.args.entries.now in
     let k = c.loop-k.k in
@@ -13,7 +13,7 @@ returns-then-same-letters g c =
     let h : k < length (map f xs) = omega (arith, length-map xs f, c.loop-k-test.true) in
     let at = c.letters.ensures ∙ c.name.ensures ∙ ap f c.index-entries-k.is ∙ sym (get_or-map f xs k x [] c.loop-k-test.true) in
     record {
-      value = named_on c.args.letters.now (map f xs) k true h (c.if-same-letters.ensures ∙ ap (bytes_eq c.args.letters.now) at) c.loop-k.invariant;
+      value = named_on c.args.letters.now (map f xs) k true h (c.if-same_letters.ensures ∙ ap (bytes_eq c.args.letters.now) at) c.loop-k.invariant;
       bound = c.loop-k-test.true;
     }
 
@@ -25,7 +25,7 @@ loop-k-preserved g c =
     let x = c.index-entries-k.result in
     let h : k < length (map f xs) = omega (arith, length-map xs f, c.loop-k-test.true) in
     let at = c.letters.ensures ∙ c.name.ensures ∙ ap f c.index-entries-k.is ∙ sym (get_or-map f xs k x [] c.loop-k-test.true) in
-    named_on c.args.letters.now (map f xs) k false h (c.if-same-letters.ensures ∙ ap (bytes_eq c.args.letters.now) at) c.loop-k.invariant
+    named_on c.args.letters.now (map f xs) k false h (c.if-same_letters.ensures ∙ ap (bytes_eq c.args.letters.now) at) c.loop-k.invariant
 
 pub returns : goal.returns
 returns g c =

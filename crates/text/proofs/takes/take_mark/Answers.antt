@@ -8,19 +8,19 @@ use Rattle.text.specs.declared.faults.TextFault.TheVariants.{UnknownMotif}
 use Rattle.text.proofs.Adds.{kept, mark_added, mark-fault, mark-left, mark_unknown, no_room, room, unchanged}
 use Rattle.text.proofs.takes.take_mark.Goals as goal
 
-pub returns-in-default : goal.returns-in-default
-returns-in-default c =
+pub returns-in_default : goal.returns-in_default
+returns-in_default c =
     let h = c.args.chapter.now in
     let n = c.args.name.now in
     let ms = c.motifs.ensures.value in
-    let e : None ≡ number_in n (motif_names (motifs_in h.book)) = c.in-default.ensures.value ∙ ap (λ x. number_in n (motif_names x)) ms in
+    let e : None ≡ number_in n (motif_names (motifs_in h.book)) = c.in_default.ensures.value ∙ ap (λ x. number_in n (motif_names x)) ms in
     let k = kept (page_of h) (page_of h) (with_mark_taken (page_of h) n c.args.start c.args.end) (UnknownMotif 2) (mark_unknown h n c.args.start c.args.end e) refl in
     record { refused = k.refused; page = k.page }
 
 pub returns-in-Ok : goal.returns-in-Ok
 returns-in-Ok c =
     let h = c.args.chapter.now in
-    let d = c.add-mark.new.self in
+    let d = c.add_mark.new.self in
     let n = c.args.name.now in
     let a = c.args.start in
     let b = c.args.end in
@@ -35,7 +35,7 @@ returns-in-Ok c =
 pub returns-in-Err : goal.returns-in-Err
 returns-in-Err c =
     let h = c.args.chapter.now in
-    let d = c.add-mark.new.self in
+    let d = c.add_mark.new.self in
     let n = c.args.name.now in
     let a = c.args.start in
     let b = c.args.end in

@@ -25,5 +25,5 @@ loop-letters-preserved-in-Name c =
       omega (arith, moves.2, ap length inv.0),
       ap (λ n. names_over n (tokens_from w j)) c.with-steps.ensures.len ∙ few.1,
       ap (every (λ k. ltb k count)) c.with-steps.ensures.motifs ∙ every-push (λ k. ltb k count) (motifs_held s) c.in-Some.motif inv.3 (lt-ltb c.in-Some.motif count c.in-Some.ensures.bound),
-      steps-name names (steps_held s) (bounds_in c.loop-letters.range) (tokens_from w i) i c.in-Some.motif x (bounds_in c.missing-range-range-in-Name.result) (steps_held t) (tokens_from w j) yields c.in-Some.ensures.value c.missing-range-range-in-Name.ensures c.with-steps.ensures.kept ∙ inv.4,
+      steps-name names (steps_held s) (bounds_in c.loop-letters.range) (tokens_from w i) i c.in-Some.motif x (bounds_in c.missing_range-range-in-Name.result) (steps_held t) (tokens_from w j) yields c.in-Some.ensures.value c.missing_range-range-in-Name.ensures c.with-steps.ensures.kept ∙ inv.4,
     )
