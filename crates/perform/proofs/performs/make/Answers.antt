@@ -16,8 +16,8 @@ returns-in-Lay g c =
     let d = lay (nets_in c.in-Lay.book.now) c.in-Lay.rule (order_of c.in-Lay.order) in
     let is : call_of c.args.call ≡ d = ap call_of c.in-Lay.is in
     record {
-      said = said_so P (sheet_of P x.work) (sheet_of P c.lay.new.self.work) (call_of c.args.call) d (lay_reply c.lay.result) (plain_reply c.done-or-refused.result) is c.lay.ensures.told c.done-or-refused.ensures.lay;
-      sheet = left_so P (sheet_of P x.work) (sheet_of P c.lay.new.self.work) (call_of c.args.call) d (lay_reply c.lay.result) (plain_reply c.done-or-refused.result) is c.lay.ensures.told;
+      said = said_so P (sheet_of P x.work) (sheet_of P c.lay.new.self.work) (call_of c.args.call) d (lay_reply c.lay.result) (plain_reply c.done_or_refused.result) is c.lay.ensures.told c.done_or_refused.ensures.lay;
+      sheet = left_so P (sheet_of P x.work) (sheet_of P c.lay.new.self.work) (call_of c.args.call) d (lay_reply c.lay.result) (plain_reply c.done_or_refused.result) is c.lay.ensures.told;
       source = c.lay.ensures.source;
       handed = sym (ap handed c.in-Lay.is);
     }
@@ -29,8 +29,8 @@ returns-in-Look g c =
     let d = look c.in-Look.allowance in
     let is : call_of c.args.call ≡ d = ap call_of c.in-Look.is in
     record {
-      said = said_so P (sheet_of P x.work) (sheet_of P c.look.new.self.work) (call_of c.args.call) d (look_reply c.look.result) (plain_reply c.looked-or-refused.result) is c.look.ensures.told c.looked-or-refused.ensures;
-      sheet = left_so P (sheet_of P x.work) (sheet_of P c.look.new.self.work) (call_of c.args.call) d (look_reply c.look.result) (plain_reply c.looked-or-refused.result) is c.look.ensures.told;
+      said = said_so P (sheet_of P x.work) (sheet_of P c.look.new.self.work) (call_of c.args.call) d (look_reply c.look.result) (plain_reply c.looked_or_refused.result) is c.look.ensures.told c.looked_or_refused.ensures;
+      sheet = left_so P (sheet_of P x.work) (sheet_of P c.look.new.self.work) (call_of c.args.call) d (look_reply c.look.result) (plain_reply c.looked_or_refused.result) is c.look.ensures.told;
       source = c.look.ensures.source;
       handed = sym (ap handed c.in-Look.is);
     }
@@ -43,11 +43,11 @@ returns-in-Take g c =
     let is : call_of c.args.call ≡ d = ap call_of c.in-Take.is in
     let new = c.take.new.strip in
     let r = c.take.result in
-    let y = c.done-or-refused-in-Take.result in
+    let y = c.done_or_refused-in-Take.result in
     let front = take_at new (drop (length new) (vec_items c.in-Take.strip)) c.in-Take.strip.len (search rules) in
-    let told = sym (ap (λ z. answer P (sheet_of P x.work) (take z)) c.deref-mut.ensures.value) ∙ c.take.ensures.told in
+    let told = sym (ap (λ z. answer P (sheet_of P x.work) (take z)) c.deref_mut.ensures.value) ∙ c.take.ensures.told in
     record {
-      said = said_so P (sheet_of P x.work) (sheet_of P c.take.new.self.work) (call_of c.args.call) d (take_reply r new) (strip_reply _ y) is told (ap (λ s. strip_reply s y) front ∙ c.done-or-refused-in-Take.ensures.take new);
+      said = said_so P (sheet_of P x.work) (sheet_of P c.take.new.self.work) (call_of c.args.call) d (take_reply r new) (strip_reply _ y) is told (ap (λ s. strip_reply s y) front ∙ c.done_or_refused-in-Take.ensures.take new);
       sheet = left_so P (sheet_of P x.work) (sheet_of P c.take.new.self.work) (call_of c.args.call) d (take_reply r new) (take_reply r new) is told;
       source = c.take.ensures.source;
       handed = sym (ap handed c.in-Take.is);
