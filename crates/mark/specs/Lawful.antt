@@ -1,5 +1,5 @@
 -- A mark source is lawful and its prices are fair: what its traits owe.
-use Rattle.std.specs.Prelude.{◌≡◌, ℕ, ◌+◌, Bool, true, false, not, ◌&&◌, ◌⊎◌, List, [], ◌∷◌, is_some, Some, None, Option, ◌==◌, nat_le, nat_lt, refl}
+use Rattle.std.specs.Prelude.{◌≡◌, ℕ, ◌+◌, Bool, true, false, not, ◌&&◌, List, [], ◌∷◌, is_some, Some, None, Option, ◌==◌, nat_le, nat_lt, refl}
 use Rattle.std.proofs.Common.{subst, sym, ⊎_elim, arith}
 use borrow.Author.Tests.{clash, eqb-true, leb-true, ltb-false}
 use Rattle.std.proofs.lemmas.Bool.{and_parts, not-false, or_cases}

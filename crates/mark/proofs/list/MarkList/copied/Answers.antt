@@ -1,7 +1,6 @@
 use Rattle.std.proofs.Common.{map, vec_items, ap, ◌∙◌, arith}
 use Rattle.mark.specs.Keys.{end_key, start_key, start_mark}
 use Rattle.mark.proofs.Copies.{keyed_all, keyed_more, marks_again, same_keys}
-use Rattle.mark.proofs.Order.{key_order}
 use Rattle.mark.proofs.list.MarkList.copied.Goals as goal
 
 pub loop-mark-preserved : goal.loop-mark-preserved
@@ -18,10 +17,10 @@ invariant_of-result c =
     let i = c.loop-mark.mark-index in
     let starts = vec_items c.loop-mark.starts in
     let ends = vec_items c.loop-mark.ends in
-    let sorted = vec_items c.sort.new.self in (
-      λ k d h. c.sort.ensures.sorted key_order k d (omega arith) (omega arith),
-      (same_keys ms starts ends sorted (keyed_all start_key ms i starts c.loop-mark-test.false c.loop-mark.invariant.0) (keyed_all end_key ms i ends c.loop-mark-test.false c.loop-mark.invariant.1) c.sort.ensures.permutation, tt),
-    )
+    let sorted = vec_items c.sort.new.self in record {
+      sorted = λ k d h. c.in_ok-sort.ensures.sorted k d (omega arith) h;
+      same = same_keys ms starts ends sorted (keyed_all start_key ms i starts c.loop-mark-test.false c.loop-mark.invariant.0) (keyed_all end_key ms i ends c.loop-mark-test.false c.loop-mark.invariant.1) c.in_ok-sort.ensures.permutation;
+    }
 
 pub returns : goal.returns
 returns c =

@@ -4,7 +4,7 @@ use Rattle.mark.specs.Listed.{listed}
 use Rattle.mark.specs.Marks.{any_mark}
 use Rattle.mark.proofs.Copies.{any-start}
 use Rattle.mark.proofs.Search.{least-alike}
-use Rattle.mark.proofs.source.MarkSourceSource.next_start.Goals as goal
+use Rattle.mark.proofs.opened.MarkSourceSource.next_start.Goals as goal
 
 pub returns : goal.returns
 returns c =

@@ -5,7 +5,7 @@ use Rattle.mark.specs.Marks.{any_mark}
 use Rattle.mark.proofs.Copies.{any-start}
 use Rattle.mark.proofs.Search.{least-alike}
 use Rattle.mark.proofs.Judgement.{passed_sorted}
-use Rattle.mark.proofs.source.MarkSourceSource.next_end.Goals as goal
+use Rattle.mark.proofs.opened.MarkSourceSource.next_end.Goals as goal
 
 pub least_wanted-requires : goal.least_wanted-requires
 least_wanted-requires c =
