@@ -1,4 +1,6 @@
 // The value of a BODY, read part by part.
+#![tactic(auto)]
+
 ghost use Rattle.std.specs.Prelude.{◌≡◌, ◌+◌, ◌<◌, ◌≤◌, [], ◌∷◌, ◌++◌, length, IfErr, Ok};
 ghost use Rattle.body.specs.Bodies.{as_item, body_of, empty, inside_class, is_byte, onward, or_none, read_from};
 ghost use Rattle.body.specs.Entries.{entries_of, entry_of};

@@ -1,4 +1,6 @@
 // The book of a house, and the chapter that its rules are looked for in.
+#![tactic(auto)]
+
 mod books;
 mod chapters;
 pub mod values;

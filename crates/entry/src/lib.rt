@@ -1,4 +1,6 @@
 // The entries of a book and a chapter: names, motifs with their bodies, rules with their ranges, and marks.
+#![tactic(auto)]
+
 pub mod body;
 mod makes;
 pub mod mark;

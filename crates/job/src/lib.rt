@@ -1,4 +1,6 @@
 // A job text read into a chapter.
+#![tactic(auto)]
+
 pub mod fault;
 mod reads;
 

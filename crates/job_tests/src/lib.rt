@@ -1,4 +1,6 @@
 // What the reader takes and refuses, as tables: a case, its job, and the verdict that is wanted.
+#![tactic(auto)]
+
 #[cfg(test)]
 mod limits;
 #[cfg(test)]

@@ -1,4 +1,6 @@
 // Sources over sources: two as one, and a window on a part of one.
+#![tactic(auto)]
+
 mod both;
 mod window;
 

@@ -1,4 +1,6 @@
 // A line of a job: its kind, its fields, and what is wrong with them.
+#![tactic(auto)]
+
 mod checks;
 pub mod faults;
 pub mod kinds;

@@ -4,6 +4,8 @@
 //     let len = write_plan(out, &name, order, 86)?;        // p,ladder,3RLL,86
 //     let len = write_find(out, &name, &[1, 2, 2, 2])?;    // f,ladder,1,2,2,2
 //     let len = write_fault(out, Refusal::BadShape, Layer::Line, 2, 10)?;    // x,6,line,2,10
+#![tactic(auto)]
+
 mod decimal;
 pub(crate) mod field;
 pub mod layer;

@@ -1,4 +1,6 @@
 // The names and ranges of a NET, one by one.
+#![tactic(auto)]
+
 ghost use Rattle.std.specs.Prelude.{◌≡◌};
 ghost use Rattle.net.specs.Readers.{Moves, Yields};
 ghost use Rattle.net.specs.Tokens.{bounds_of, high_of, low_of};

@@ -1,4 +1,6 @@
 // A text in parts, which end at a byte of its own.
+#![tactic(auto)]
+
 ghost use Rattle.std.specs.Prelude.{◌≡◌, ◌<◌, ◌≤◌, length};
 ghost use Rattle.parts.specs.Parts.{Part, tally};
 

@@ -1,4 +1,6 @@
 // What an order costs by a forecast, and the order of least price.
+#![tactic(auto)]
+
 ghost use Rattle.planner.specs.Laws.{AllowedCompletes, CountedPrice, OnlyOne, SamePlan, SamePrices};
 
 pub mod letters;

@@ -1,4 +1,6 @@
 // Why a call refuses: one named case for each of the 25 numbers of docs/REFUSALS.md.
+#![tactic(auto)]
+
 ghost use Rattle.std.specs.Prelude.{◌≡◌, ◌≤◌, ◌++◌, ◌↔◌, Some, IsTrue, codes, decimal, nat_eq};
 ghost use Rattle.refusal.specs.Numbers.{number_of};
 ghost use Rattle.std.specs.Cmp.{partial_equiv_from_equiv};

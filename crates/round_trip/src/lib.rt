@@ -1,4 +1,6 @@
 // A chapter written out as a job, and that the reader makes that very chapter of it.
+#![tactic(auto)]
+
 mod keeps;
 mod stands;
 

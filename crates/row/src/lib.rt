@@ -1,4 +1,6 @@
 // The row source: a motif stands where the boxes of a row fit the items of its body.
+#![tactic(auto)]
+
 ghost use Rattle.std.specs.Prelude.{◌≡◌, ℕ, length, IfOk, Decides};
 ghost use Rattle.book.specs.Adding.{motifs_in};
 ghost use Rattle.entry.specs.Bodies.{all_fit};

@@ -1,4 +1,6 @@
 // The rules of a book by their numbers.
+#![tactic(auto)]
+
 ghost use Rattle.std.specs.Prelude.{◌≡◌, map};
 ghost use Rattle.entry.specs.Rules.{net_of};
 ghost use Rattle.rules.specs.Nets.{nets_in};

@@ -1,4 +1,6 @@
 // The shapes of the fields of a line, and the place at which a field leaves its shape.
+#![tactic(auto)]
+
 ghost use Rattle.std.specs.Prelude.{◌≡◌, MatchOption};
 ghost use Rattle.shape.specs.Follow.{misfit};
 ghost use Rattle.shape.specs.Grammar.{shape_of};

@@ -3,6 +3,8 @@
 //     let passed = ShowTest::new(&strip, m, ink)?;
 //     let show = passed.open(ink);
 //     show.ink() // reads the painted boxes; where `show` ends, `ink` is as before
+#![tactic(auto)]
+
 mod checks;
 pub mod glimpses;
 pub mod guard;

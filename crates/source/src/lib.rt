@@ -1,4 +1,6 @@
 // What a search asks: a source says where a motif stands, a priced source also what a look costs.
+#![tactic(auto)]
+
 ghost use Rattle.std.specs.Prelude.{◌≡◌, ℕ, ◌+◌, ◌≤◌};
 ghost use Rattle.source.specs.Meaning.{Fair, Lawful, Meaning, NextEnd, NextStart, Price};
 

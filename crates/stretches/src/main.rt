@@ -1,10 +1,6 @@
-// Reads a job and lists the stretches of each of its motifs, as its row, its marks, both and a window on both have them,
-// and then the placements of each of its rules.
-mod placements;
-mod stop;
+// Reads a job and lists the stretches of each of its motifs, as its row, its marks, both and a window on both have them.
+#![tactic(auto)]
 
-use crate::placements::print_rules;
-use crate::stop::Stop;
 use book::Chapter;
 use job::{JobFault, read_job};
 use layer::{Both, Window};
@@ -66,6 +62,31 @@ fn print_mark_fault(rt: &HostRuntime, fault: MarkFault) -> io::Result<()> {
         MarkFault::Entry(entry) => entry,
     };
     println!(rt; "x,{number},marks,{entry},0")
+}
+
+// Why a list breaks off: marks that can't be opened, which is said on standard output, or a failure.
+#[derive(Drop)]
+enum Stop {
+    Marks(MarkFault),
+    Failed(anyhow::Error),
+}
+
+impl From<AllocError> for Stop {
+    fn from(error: AllocError) -> Stop {
+        Stop::Failed(error.into())
+    }
+}
+
+impl From<Refusal> for Stop {
+    fn from(refusal: Refusal) -> Stop {
+        Stop::Failed(refusal.into())
+    }
+}
+
+impl From<io::Error> for Stop {
+    fn from(error: io::Error) -> Stop {
+        Stop::Failed(error.into())
+    }
 }
 
 fn row_of(chapter: &Chapter) -> Result<RowSource<'_>, Refusal> {
@@ -131,7 +152,7 @@ fn list(rt: &HostRuntime, chapter: &Chapter) -> Result<(), Stop> {
         print_line(rt, name.as_str(), "both", &both, number)?;
         print_line(rt, name.as_str(), "window", &window, number)?;
     }
-    print_rules(rt, both, &chapter.book)
+    Ok(())
 }
 
 fn run(rt: &HostRuntime) -> anyhow::Result<()> {

@@ -1,4 +1,6 @@
 // A find on a strip of numbers.
+#![tactic(auto)]
+
 mod room;
 mod stretch;
 

@@ -1,4 +1,6 @@
 // Taking the lines of a job into a chapter, one by one.
+#![tactic(auto)]
+
 pub mod faults;
 pub mod kept;
 mod names;

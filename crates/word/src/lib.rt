@@ -1,4 +1,6 @@
 // The words of a line: names and numbers, each judged wherever it stands.
+#![tactic(auto)]
+
 mod checks;
 pub mod faults;
 pub mod field;

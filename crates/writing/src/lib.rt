@@ -1,4 +1,6 @@
 // How the numbers and lines of a job are written, and that the reader takes them back.
+#![tactic(auto)]
+
 ghost use Rattle.writing.specs.Bodies.{Bodies};
 ghost use Rattle.writing.specs.Breaks.{Breaks};
 ghost use Rattle.writing.specs.Laws.{Numerals};

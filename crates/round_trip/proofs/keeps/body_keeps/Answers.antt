@@ -8,4 +8,4 @@ use Rattle.round_trip.proofs.keeps.body_keeps.Goals as goal
 pub returns : goal.returns
 returns c =
     let room : length c.args.body.items ≡ 16 = search rules in
-    body-lawful c.args.body room (subst (λ x. All Lawful (map entry_of x)) c.items.ensures c.items-keep.ensures)
+    body-lawful c.args.body room (subst (λ x. All Lawful (map entry_of x)) c.items.ensures c.items_keep.ensures)
