@@ -43,36 +43,67 @@ fn untouched(bytes: &[u8]) -> bool {
     true
 }
 
-fn is_written(rt: &impl Abort, call: Call<'_>, wanted: &[u8], out: &mut [u8]) -> Result<(), Fail> {
-    assert_eq!(rt; call.write(out)?, wanted.len(), "the answer");
+// `about` says of a failure which row and which room it was.
+fn is_written(
+    rt: &impl Abort,
+    about: (&str, &str),
+    call: Call<'_>,
+    wanted: &[u8],
+    out: &mut [u8],
+) -> Result<(), Fail> {
+    let (row, room) = about;
+    assert_eq!(rt; call.write(out)?, wanted.len(), "{row}, {room}: the answer");
     assert!(rt; wanted.len() <= out.len());
     let (line, behind) = out.split_at(wanted.len());
-    assert!(rt; line == wanted, "the line");
-    assert!(rt; untouched(behind), "the bytes behind it");
+    assert!(rt; line == wanted, "{row}, {room}: the line");
+    assert!(rt; untouched(behind), "{row}, {room}: the bytes behind it");
     Ok(())
 }
 
-fn is_refused(rt: &impl Abort, call: Call<'_>, out: &mut [u8]) -> Result<(), Fail> {
+fn is_refused(
+    rt: &impl Abort,
+    about: (&str, &str),
+    call: Call<'_>,
+    out: &mut [u8],
+) -> Result<(), Fail> {
+    let (row, room) = about;
     match call.write(out) {
         Ok(_) => return Err(Fail::new("too little room was enough")),
-        Err(refusal) => assert_eq!(rt; refusal.number(), 25),
+        Err(refusal) => assert_eq!(rt; refusal.number(), 25, "{row}, {room}"),
     }
-    assert!(rt; untouched(out), "after a refusal");
+    assert!(rt; untouched(out), "{row}, {room}: after a refusal");
     Ok(())
 }
 
-fn is_line(rt: &impl Abort, call: Call<'_>, wanted: &[u8]) -> Result<(), Fail> {
+fn is_line(rt: &impl Abort, row: &str, call: Call<'_>, wanted: &[u8]) -> Result<(), Fail> {
     let len = wanted.len();
     assert!(rt; 0 < len && len <= ROOM);
-    is_written(rt, call, wanted, &mut [MARK; ROOM])?;
-    is_written(rt, call, wanted, &mut [MARK; ROOM][0..len]).note("just enough")?;
-    is_refused(rt, call, &mut [MARK; ROOM][0..len - 1]).note("one byte too few")?;
-    is_refused(rt, call, &mut []).note("no byte")
+    is_written(
+        rt,
+        (row, "more than enough"),
+        call,
+        wanted,
+        &mut [MARK; ROOM],
+    )?;
+    is_written(
+        rt,
+        (row, "just enough"),
+        call,
+        wanted,
+        &mut [MARK; ROOM][0..len],
+    )?;
+    is_refused(
+        rt,
+        (row, "one byte too few"),
+        call,
+        &mut [MARK; ROOM][0..len - 1],
+    )?;
+    is_refused(rt, (row, "no byte"), call, &mut [])
 }
 
 pub fn writes(rt: &impl Abort, rows: &[(&str, Call<'_>, &[u8])]) -> Result<(), Fail> {
     for (about, call, wanted) in rows {
-        is_line(rt, *call, *wanted).note(*about)?;
+        is_line(rt, *about, *call, *wanted)?;
     }
     Ok(())
 }
