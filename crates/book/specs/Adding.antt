@@ -1,5 +1,5 @@
 -- Why an entry is not added to a book or a chapter: the checks of each call, in their order.
-use Rattle.std.specs.Prelude.{ℕ, ◌+◌, Bool, not, ◌||◌, List, length, None, vec_items, Option, ◌==◌, nat_le, nat_lt}
+use Rattle.std.specs.Prelude.{ℕ, ◌+◌, not, ◌||◌, List, length, None, vec_items, Option, ◌==◌, nat_le, nat_lt}
 use Rattle.refusal.specs.Checks.{refuse}
 use Rattle.refusal.specs.declared.Refusal.{Refusal}
 use Rattle.refusal.specs.declared.Refusal.TheVariants.{BadNumber, BadShape, NameTaken, NoRoom, UnknownMotif}

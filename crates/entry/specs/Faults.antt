@@ -1,5 +1,5 @@
 -- Why a value of a book is not made: the checks of each call, in their order.
-use Rattle.std.specs.Prelude.{ℕ, ◌+◌, Bool, not, ◌||◌, List, length, ℤ, pos, negsuc, None, Option, ◌==◌, int_lt, nat_lt}
+use Rattle.std.specs.Prelude.{ℕ, ◌+◌, Bool, not, ◌||◌, List, ℤ, pos, negsuc, None, Option, ◌==◌, int_lt, nat_lt}
 use Rattle.refusal.specs.Checks.{refuse}
 use Rattle.refusal.specs.declared.Refusal.{Refusal}
 use Rattle.refusal.specs.declared.Refusal.TheVariants.{BadName, BadNumber, BadShape, BackwardRange, TooMany}

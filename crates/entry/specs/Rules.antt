@@ -1,5 +1,5 @@
 -- What a rule means: its first motif and, for each further one, the range that leads to it.
-use Rattle.std.specs.Prelude.{ℕ, ◌+◌, ◌-◌, List, [], ◌∷◌, take, ℤ, pos, ◌+ℤ◌, ◌-ℤ◌, unsigned_abs}
+use Rattle.std.specs.Prelude.{ℕ, ◌+◌, ◌-◌, List, [], ◌∷◌, take, ℤ, ◌-ℤ◌, unsigned_abs}
 use Rattle.entry.specs.declared.range.Range.{Range}
 use Rattle.entry.specs.declared.rule.Rule.{Rule}
 

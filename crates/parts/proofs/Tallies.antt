@@ -1,9 +1,8 @@
 -- How often a byte stands in a text, and how many parts that makes.
-use Rattle.std.proofs.Common.{◌≡◌, ℕ, ◌+◌, ◌<◌, ◌≤◌, Bool, true, false, cond, eqb, List, [], ◌∷◌, length, get_or, drop, sym, refl, ap, ◌∙◌, arith}
+use Rattle.std.proofs.Common.{◌≡◌, ℕ, ◌+◌, ◌<◌, ◌≤◌, Bool, true, false, cond, eqb, List, [], ◌∷◌, length, get_or, drop, refl, ap, ◌∙◌, arith}
 use Rattle.std.proofs.lemmas.List.{at_drop_more, at_drop_all}
 use Rattle.std.proofs.lemmas.Bool.{eq-eqb, ne_eqb}
 use Rattle.parts.specs.Parts.{before, parts, tally}
-use Rattle.parts.proofs.Cuts.{Lacks, parts_last}
 
 tally-more : (b : ℕ) (w : List ℕ) (i : ℕ) → i < length w → tally b (drop i w) ≡ tally b (drop (i + 1) w) + cond (eqb (get_or w i 0) b) 1 0
 tally-more b w i h = at_drop_more (tally b) w i 0 h

@@ -1,9 +1,8 @@
 -- What may follow a byte: the derivative of a shape, computed, and that it is that.
-use Rattle.std.proofs.Common.{◌≡◌, ℕ, ◌≤◌, Bool, true, false, cond, ◌&&◌, ◌||◌, ◌⊎◌, List, [], ◌∷◌, ◌++◌, length, take, sym, refl, ap, ◌∙◌, subst, inl, inr, append_assoc, arith}
-use Rattle.shape.specs.declared.kinds.Kind.{Kind}
+use Rattle.std.proofs.Common.{◌≡◌, ℕ, Bool, true, false, cond, ◌&&◌, ◌||◌, ◌⊎◌, List, [], ◌∷◌, ◌++◌, sym, refl, ap, ◌∙◌, subst, inl, inr, arith}
 use Rattle.shape.specs.Kinds.{kind_of}
-use Rattle.shape.specs.Follow.{may_end, seq, or_not, alt, after, same, is_never, has}
-use Rattle.shape.specs.Shape.{Shape, never, empty, one, ◌then◌, ◌or◌, many, together, Each, Fits, Completable}
+use Rattle.shape.specs.Follow.{may_end, seq, or_not, alt, after, same}
+use Rattle.shape.specs.Shape.{Shape, never, empty, one, ◌then◌, ◌or◌, many, together, Each, Fits}
 use Rattle.shape.proofs.Same.{same_at, same-sound, sample, sample_is}
 
 -- they are `then` and `or`

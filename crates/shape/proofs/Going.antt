@@ -1,10 +1,10 @@
 -- The place that a walk over the states finds is the one that the shapes give.
-use Rattle.std.proofs.Common.{◌≡◌, ℕ, ◌+◌, ◌<◌, ◌≤◌, Bool, true, false, cond, List, [], ◌∷◌, length, get_or, drop, Some, None, Option, sym, refl, ap, ◌∙◌, arith}
+use Rattle.std.proofs.Common.{◌≡◌, ℕ, ◌+◌, ◌<◌, Bool, true, false, cond, List, [], ◌∷◌, length, get_or, drop, Some, None, sym, refl, ap, ◌∙◌, arith}
 use Rattle.std.proofs.lemmas.List.{at_drop_more, at_drop_all}
 use Rattle.shape.specs.declared.states.State.{State}
 use Rattle.shape.specs.Kinds.{kind_of}
 use Rattle.shape.specs.Shape.{Shape, never, empty, one, ◌then◌, ◌or◌, many}
-use Rattle.shape.specs.Follow.{after, has, goes, is_never, misfit, may_end}
+use Rattle.shape.specs.Follow.{after, has, goes, is_never, misfit}
 use Rattle.shape.specs.States.{next, final}
 use Rattle.shape.proofs.Derive.{has_word}
 use Rattle.shape.proofs.Table.{shape_at, shape_or, next-right, final-right, goes_on}

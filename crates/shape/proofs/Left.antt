@@ -1,14 +1,14 @@
 -- A text read so far, and the shape of what may follow it.
-use Rattle.std.proofs.Common.{◌≡◌, ℕ, ◌+◌, ◌<◌, ◌≤◌, Bool, true, false, ◌⊎◌, List, [], ◌∷◌, ◌++◌, length, get_or, take, drop, Some, None, Option, sym, refl, ap, ◌∙◌, subst, inl, inr, append_assoc, arith}
+use Rattle.std.proofs.Common.{◌≡◌, ℕ, ◌+◌, ◌<◌, ◌≤◌, true, false, List, [], ◌∷◌, ◌++◌, length, get_or, take, drop, Some, None, sym, ap, ◌∙◌, subst, inl, inr, append_assoc, arith}
 use Rattle.std.proofs.lemmas.Bool.{cases_lt}
 use Rattle.std.proofs.lemmas.List.{take_more, take_all, take-take, take-append-drop, append-nil}
 use Rattle.shape.specs.declared.states.State.{State}
 use Rattle.shape.specs.declared.Form.{Form}
 use Rattle.shape.specs.Kinds.{kind_of}
-use Rattle.shape.specs.Shape.{Shape, never, Fits, Completable, Longest, Misshapen}
+use Rattle.shape.specs.Shape.{Shape, never, Fits, Completable, Misshapen}
 use Rattle.shape.specs.Grammar.{shape_of}
 use Rattle.shape.specs.States.{next, final, begin}
-use Rattle.shape.specs.Follow.{after, may_end}
+use Rattle.shape.specs.Follow.{after}
 use Rattle.shape.proofs.Derive.{after_in, after_out, may_end_in, may_end_out, word_of}
 use Rattle.shape.proofs.Table.{shape_at, shape_or, next-right, final-right, begin-right, goes_on}
 

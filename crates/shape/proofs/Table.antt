@@ -1,7 +1,7 @@
 -- What each state of the table stands for: the shape of what may follow.
-use Rattle.std.proofs.Common.{◌≡◌, Bool, true, false, Some, None, Option, refl}
+use Rattle.std.proofs.Common.{◌≡◌, true, Some, None, Option, refl}
 use Rattle.shape.specs.declared.kinds.Kind.{Kind}
-use Rattle.shape.specs.declared.kinds.Kind.TheVariants.{Space, Star, Dot, Open, Shut, Less, More, Numeral, Letter, Other}
+use Rattle.shape.specs.declared.kinds.Kind.TheVariants.{Space, Shut, More, Numeral, Letter}
 use Rattle.shape.specs.declared.states.State.{State}
 use Rattle.shape.specs.declared.states.State.TheVariants.{NumberDue, InNumber, CodeDue, InCode, BodyDue, StarDone, ItemDue, InItem, ItemDone, ClassDue, InClass, NameDue, InName, LinkDue, LowDue, InLow, HighDue, InHigh, RangeDone}
 use Rattle.shape.specs.declared.Form.{Form}

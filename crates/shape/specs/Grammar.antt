@@ -1,9 +1,8 @@
 -- The shapes of the fields.
-use Rattle.shape.specs.declared.kinds.Kind.{Kind}
-use Rattle.shape.specs.declared.kinds.Kind.TheVariants.{Space, Star, Dot, Open, Shut, Less, More, Numeral, Letter, Other}
+use Rattle.shape.specs.declared.kinds.Kind.TheVariants.{Space, Star, Dot, Open, Shut, Less, More, Numeral, Letter}
 use Rattle.shape.specs.declared.Form.{Form}
 use Rattle.shape.specs.declared.Form.TheVariants.{Number, Codes, Body, Net}
-use Rattle.shape.specs.Shape.{Shape, never, empty, one, ◌then◌, ◌or◌, many}
+use Rattle.shape.specs.Shape.{Shape, empty, one, ◌then◌, ◌or◌, many}
 
 -- a number word: one or more digits and minus signs (which of them are lawful numbers is another refusal's matter)
 abbrev pub numeral : Shape

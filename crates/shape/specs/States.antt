@@ -1,7 +1,7 @@
 -- The states of the shape test, as a table: what a byte of a kind leads to.
 use Rattle.std.specs.Prelude.{Bool, true, false, cond, Some, None, Option}
 use Rattle.shape.specs.declared.kinds.Kind.{Kind}
-use Rattle.shape.specs.declared.kinds.Kind.TheVariants.{Space, Star, Dot, Open, Shut, Less, More, Numeral, Letter, Other}
+use Rattle.shape.specs.declared.kinds.Kind.TheVariants.{Space, Star, Dot, Open, Shut, Less, More, Numeral, Letter}
 use Rattle.shape.specs.declared.states.State.{State}
 use Rattle.shape.specs.declared.states.State.TheVariants.{NumberDue, InNumber, CodeDue, InCode, BodyDue, StarDone, ItemDue, InItem, ItemDone, ClassDue, InClass, NameDue, InName, LinkDue, LowDue, InLow, HighDue, InHigh, RangeDone}
 use Rattle.shape.specs.Follow.{same}

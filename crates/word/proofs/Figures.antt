@@ -1,12 +1,12 @@
 -- Numbers read digit by digit, and kept within limits.
-use Rattle.std.proofs.Common.{◌≡◌, ℕ, ◌+◌, ◌-◌, ◌*◌, ◌<◌, ◌≤◌, Bool, true, false, cond, ◌&&◌, eqb, leb, ◌⊎◌, List, [], ◌∷◌, length, get_or, drop, ℤ, pos, negsuc, neg_ℤ, ◌≤ℤ◌, ◌<ℤ◌, Some, None, Option, sym, refl, ap, ◌∙◌, subst, inl, inr, arith}
+use Rattle.std.proofs.Common.{◌≡◌, ℕ, ◌+◌, ◌-◌, ◌*◌, ◌<◌, ◌≤◌, Bool, true, false, cond, ◌&&◌, leb, List, [], ◌∷◌, length, get_or, drop, ℤ, pos, negsuc, neg_ℤ, ◌≤ℤ◌, ◌<ℤ◌, Some, None, Option, sym, refl, ap, ◌∙◌, subst, inl, inr, arith}
 use lib.Signed.{le_z}
 use Rattle.std.proofs.lemmas.List.{at_drop_more, at_drop_all}
 use Rattle.std.proofs.lemmas.Int.{ints}
 use Rattle.std.proofs.lemmas.Bool.{and_parts, and_right, and_from, and_left, lt-leb, le-leb, cases_lt}
 use Rattle.entry.specs.Lists.{every}
 use Rattle.shape.specs.Kinds.{is_digit}
-use Rattle.word.specs.Numbers.{decimal, kept, leads, minus, plain, plus, written}
+use Rattle.word.specs.Numbers.{decimal, kept, leads, minus, plain, plus}
 
 pub decimal_ge : (n : ℕ) (bs : List ℕ) → n ≤ decimal n bs
 decimal_ge n [] = omega arith

@@ -1,10 +1,10 @@
 -- The walk over a text finds the first longest run that is not sound.
-use Rattle.std.proofs.Common.{◌≡◌, ℕ, zero, suc, ◌+◌, ◌-◌, ◌<◌, ◌≤◌, Bool, true, false, cond, not, ◌&&◌, ◌⊎◌, List, [], ◌∷◌, length, get_or, take, drop, Some, None, Option, sym, refl, ap, ◌∙◌, subst, inl, inr, arith, MatchOption}
+use Rattle.std.proofs.Common.{◌≡◌, ℕ, zero, suc, ◌+◌, ◌-◌, ◌<◌, ◌≤◌, Bool, true, false, cond, not, ◌&&◌, List, [], ◌∷◌, length, get_or, take, drop, Option, sym, refl, ap, ◌∙◌, subst, inl, inr, arith, MatchOption}
 use Rattle.std.proofs.lemmas.List.{drop-drop, get_or-drop, length-drop}
 use Rattle.std.proofs.lemmas.Bool.{both_ways, cases_order}
 use Rattle.std.specs.List.{between}
 use Rattle.refusal.specs.Checks.{refuse}
-use Rattle.word.specs.Longest.{AllSound, FaultAt, FirstAt, Run}
+use Rattle.word.specs.Longest.{AllSound, FirstAt, Run}
 use Rattle.word.specs.Runs.{fault_from, first_fault_of, front}
 
 -- the front of a text, by its places

@@ -1,5 +1,5 @@
 -- Number words: what number one writes, and the limits that it has to keep.
-use Rattle.std.specs.Prelude.{ℕ, ◌+◌, ◌-◌, ◌*◌, Bool, true, false, cond, ◌&&◌, List, [], ◌∷◌, length, ℤ, pos, negsuc, neg_ℤ, is_some, Some, None, Option, ◌==◌, int_le, nat_le, unsigned_abs}
+use Rattle.std.specs.Prelude.{ℕ, ◌+◌, ◌-◌, ◌*◌, Bool, false, cond, ◌&&◌, List, [], ◌∷◌, length, ℤ, pos, negsuc, neg_ℤ, is_some, Some, None, Option, ◌==◌, int_le, nat_le, unsigned_abs}
 use Rattle.entry.specs.Lists.{every}
 use Rattle.shape.specs.Kinds.{is_digit}
 use Rattle.word.specs.declared.limits.Limits.{Limits}

@@ -1,4 +1,4 @@
-use Rattle.std.proofs.Common.{◌≡◌, ℕ, ◌≤◌, drop}
+use Rattle.std.proofs.Common.{◌≡◌, ◌≤◌, drop}
 use Rattle.entry.specs.Lists.{every}
 use Rattle.shape.specs.Kinds.{is_digit}
 use Rattle.word.specs.Numbers.{decimal}

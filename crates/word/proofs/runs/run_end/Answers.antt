@@ -1,4 +1,4 @@
-use Rattle.std.proofs.Common.{◌≡◌, sym, refl, ap, ◌∙◌, arith}
+use Rattle.std.proofs.Common.{sym, arith}
 use Rattle.word.proofs.Scan.{passed-end, passed-more, passed_none, passed_stop}
 use Rattle.word.proofs.runs.run_end.Goals as goal
 

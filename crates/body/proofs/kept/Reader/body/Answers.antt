@@ -1,8 +1,6 @@
-use Rattle.std.proofs.Common.{◌≡◌, ◌-◌, ◌≤◌, map, length, take, Some, sym, ap, ◌∙◌, arith, rules}
+use Rattle.std.proofs.Common.{◌≡◌, ◌-◌, ◌≤◌, map, length, take, Some, ap, ◌∙◌, arith, rules}
 use Rattle.std.proofs.lemmas.List.Edits.{length-between}
-use Rattle.std.proofs.lemmas.List.{length-map}
 use Rattle.std.specs.List.{between}
-use Rattle.body.specs.Bodies.{or_none}
 use Rattle.body.specs.Entries.{entry_of}
 use Rattle.body.specs.Readers.{items_kept}
 use Rattle.body.proofs.Arrays.{mapped_length, sized_none, sized_some}
