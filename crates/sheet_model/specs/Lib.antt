@@ -1,4 +1,5 @@
 pub mod Strip
 pub mod Sheet
 pub mod History
+pub mod Accounts
 pub mod Stack

@@ -1,13 +1,12 @@
 -- The bill of a finished sheet is the laid order's price by the count, and the planned order has the least.
-use Rattle.std.proofs.Common.{◌≡◌, ℕ, ◌≤◌, true, ◌⊎◌, List, Some, sym, refl, ap, ◌∙◌, subst, ap₂, inl, inr, arith}
+use Rattle.std.proofs.Common.{◌≡◌, ℕ, ◌≤◌, ◌⊎◌, List, sym, refl, ap, ◌∙◌, subst, ap₂, inl, inr, arith}
 use Rattle.entry.specs.Rules.{Net}
 use Rattle.source.specs.Meaning.{Priced, plain}
 use Rattle.walk.specs.declared.letter.Letter.{Letter}
-use Rattle.walk.specs.Walk.{Order, Allowed}
-use Rattle.walk.specs.Numbered.{price_of}
+use Rattle.walk.specs.Walk.{Order}
 use Rattle.sheet_model.specs.Sheet.{answers, clean}
-use Rattle.sheet_model.specs.History.{History, Tells, nothing, noted}
-use Rattle.sheet_model.proofs.Sheets.{calls_told}
+use Rattle.sheet_model.specs.Accounts.{Account, TellsAll, no_entries, entered}
+use Rattle.sheet_model.proofs.Sheets.{calls_accounted}
 use Rattle.forecast.specs.declared.value.Forecast.{Forecast}
 use Rattle.planner.specs.Orders.{Terms, Completes, Before, price}
 use Rattle.planner.specs.Terms.{terms_by}
@@ -27,7 +26,7 @@ no_lower T s ls o c e (inl q) = let same : price T s ls ≡ price T o.seed o.let
 no_lower T s ls o c e (inr (inl h)) = omega (arith, e, h)
 no_lower T s ls o c e (inr (inr h)) = omega (arith, e, h.0)
 
-cheapest : (P : Priced) (h : History) → Tells P h → Cheapest P h
+cheapest : (P : Priced) (h : Account) → TellsAll P h → Cheapest P h
 cheapest P h t r o task finished f c s ls price' planned =
     let T = terms_by P r f in
     let all : Completes T o.seed o.seed o.letters = (allowed-completes T r o refl).0 (t.allowed r o task) in
@@ -39,5 +38,5 @@ cheapest P h t r o task finished f c s ls price' planned =
 
 pub whole-stands : WholeStands
 whole-stands P lawful cs proper =
-    let t = calls_told P lawful cs proper in
-    record { answered = refl; spent = t.spent; tells = t.tells; bill_told = t.bill; cheapest = cheapest P (noted nothing cs (answers P clean cs)) t.tells }
+    let t = calls_accounted P lawful cs proper in
+    record { answered = refl; spent = t.spent; tells = t.tells; bill_told = t.bill; cheapest = cheapest P (entered no_entries cs (answers P clean cs)) t.tells }

@@ -1,4 +1,4 @@
-use Rattle.sheet_model.proofs.Sheets.{calls_told}
+use Rattle.sheet_model.proofs.Histories.{calls_told}
 use Rattle.sheet_model.proofs.calls_stand.Goals as goal
 
 pub returns : goal.returns
