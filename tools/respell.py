@@ -4,7 +4,8 @@
 usage: python3 tools/respell.py     at the top of the repository, once, after the toolchain's own script
 
 A name in camel case becomes snake case. A dash stays where a lemma's name joins names of definitions, and is a `_` in
-fields and where it joins plain words; a fact's name loses its dashes. Names that the check makes of the source (the goals of proofs/F/) stay.
+fields and where it joins plain words; a fact's name loses its dashes. What is imported under the plain word `All` keeps
+its own name. Names that the check makes of the source (the goals of proofs/F/) stay.
 It stops, with nothing written, where a new name stands already or two names fall together.
 """
 
@@ -34,7 +35,7 @@ CHOSEN = {
 PLAIN = {"in", "out", "so", "is", "at", "on", "not", "with", "of", "to", "by", "the", "all", "from", "again"}
 
 # Goals that the check names after the source, and fields of its own.
-MADE = re.compile(r"^(returns|loop|invariant|decreases|overflow|bounds|offset|on-|unreachable|measure|prove)\b|-requires\b|-requires$")
+MADE = re.compile(r"^(returns|loop|invariant|invariant_of|decreases|overflow|overflow_\w+|bounds|offset|offset_bounds|slice_bounds|nonzero_\w+|on|unreachable|measure|prove)-|-requires\b|^(unreachable)$")
 
 # Names of the library that a lemma's name may join.
 LIBRARY = {"append", "map", "length", "take", "drop", "push", "pop", "replicate", "set", "sum", "get_or", "cons", "concat"}
@@ -103,7 +104,18 @@ def renames():
     return chosen
 
 
+def by_its_name(text):
+    """The library's test of every item by recursion under its own name: `All` means the library's own in every clause."""
+    if "AllByRecursion as All}" not in text and "AllByRecursion as All," not in text:
+        return text
+    text = text.replace("AllByRecursion as All", "AllByRecursion")
+    return re.sub(r"(?<![\w'.-])All(?![\w'-])", "AllByRecursion", text)
+
+
 def turned(text, chosen, code):
+    text = by_its_name(text)
+    if not chosen:
+        return text
     names = sorted(chosen, key=len, reverse=True)
     pattern = re.compile(r"(?<!" + WORD + r")(" + "|".join(re.escape(n) for n in names) + r")(?!" + WORD + r")")
 

@@ -1,7 +1,7 @@
 -- A chapter is read back from the job that it is written as.
 use Rattle.std.proofs.Common.{◌≡◌, ℕ, ◌<◌, true, List, [], ◌∷◌, ◌++◌, length, get_or, None, sym, ap, ◌∙◌, arith}
 use Rattle.std.proofs.ByRecursion.{All-append, All-get_or, All-map, All-weaker}
-use Rattle.std.specs.List.{AllByRecursion as All}
+use Rattle.std.specs.List.{AllByRecursion}
 use Rattle.entry.specs.Names.{is_name}
 use Rattle.entry.specs.declared.mark.Mark.{Mark}
 use Rattle.text.specs.Pages.{Page, motif_names_in}
@@ -31,7 +31,7 @@ module _ (p : Page) (l : LawfulPage p) where
       let k : m.motif < length names = of_names p (λ n. m.motif < n) h.known in
       mark_whole (get_or names m.motif []) m.start m.end (All-get_or (λ n. is_name n ≡ true) names m.motif [] k (motif_names_lem p l).named) h.starts h.ends
 
-  all_whole : All Whole (chapter_lines p)
+  all_whole : AllByRecursion Whole (chapter_lines p)
   all_whole =
       let names = motif_names_in p in
       let motifs = All-map Whole motif_line p.motifs (All-weaker LawfulMotif (λ m. Whole (motif_line m)) motif_whole p.motifs l.motifs) in
@@ -40,7 +40,7 @@ module _ (p : Page) (l : LawfulPage p) where
       let marks = All-map Whole (mark_of names) p.marks (All-weaker (LawfulMark (length p.motifs)) (λ m. Whole (mark_of names m)) mark-line p.marks l.marks) in
       All-append Whole (motif_lines p) (rule_lines p ++ (boxes_lines p ++ mark_lines p)) motifs (All-append Whole (rule_lines p) (boxes_lines p ++ mark_lines p) rules (All-append Whole (boxes_lines p) (mark_lines p) boxes marks))
 
-  all_lead : All Short (chapter_lines p) → Leads empty_page (chapter_lines p) p
+  all_lead : AllByRecursion Short (chapter_lines p) → Leads empty_page (chapter_lines p) p
   all_lead a =
       let b = all_parts Short (motif_lines p) (rule_lines p ++ (boxes_lines p ++ mark_lines p)) a in
       let c = all_parts Short (rule_lines p) (boxes_lines p ++ mark_lines p) b.1 in

@@ -5,7 +5,7 @@ use lib.ListN.{length-map}
 use Rattle.std.proofs.lemmas.List.{length-take-le, map-id}
 use Rattle.std.proofs.lemmas.Int.{ints}
 use Rattle.std.proofs.lemmas.Bool.{and_parts, leb-true, ltb-true}
-use Rattle.std.specs.List.{AllByRecursion as All}
+use Rattle.std.specs.List.{AllByRecursion}
 use Rattle.entry.specs.Bodies.{items_of}
 use Rattle.entry.specs.Lists.{every}
 use Rattle.entry.specs.Rules.{links_of, motifs_of, net_from, ranges_of}
@@ -25,7 +25,7 @@ use Rattle.writing.specs.Motifs.{LawfulMotif}
 use Rattle.writing.specs.Rules.{LawfulLink, LawfulRule}
 use Rattle.round_trip.specs.Laws.{LawfulMark, LawfulPage}
 
-pub body-lawful : (b : Body) → length b.items ≡ 16 → All Lawful (map entry_of (items_of b)) → LawfulBody (entries_of (Some b))
+pub body-lawful : (b : Body) → length b.items ≡ 16 → AllByRecursion Lawful (map entry_of (items_of b)) → LawfulBody (entries_of (Some b))
 body-lawful b n a =
     let few : b.len ≤ 16 = b.few in
     let some : 1 ≤ b.len = b.some in
@@ -34,7 +34,7 @@ body-lawful b n a =
     (omega arith, omega arith, a)
 
 -- what follows from a test of every entry
-by_test : {X Y : Type 0} (test : X → Bool) (P : Y → Type 0) (f : X → Y) → ((x : X) → test x ≡ true → P (f x)) → (xs : List X) → every test xs ≡ true → All P (map f xs)
+by_test : {X Y : Type 0} (test : X → Bool) (P : Y → Type 0) (f : X → Y) → ((x : X) → test x ≡ true → P (f x)) → (xs : List X) → every test xs ≡ true → AllByRecursion P (map f xs)
 by_test test P f so [] h = tt
 by_test test P f so (x ∷ xs) h = let k = and_parts (test x) (every test xs) h in (so x k.0, by_test test P f so xs k.1)
 
@@ -42,7 +42,7 @@ module _ (count : ℕ) where
   link-lawful : (g : Range) (k : ℕ) → k < count → LawfulLink count (record { range = record { low = g.low; high = g.high }; motif = k })
   link-lawful g k h = record { lows = (g.least, omega (arith, ints, g.ordered, g.most)); highs = (omega (arith, ints, g.least, g.ordered), g.most); ordered = g.ordered; known = h }
 
-  links-lawful : (ms : List ℕ) (gs : List Range) → every (λ k. ltb k count) ms ≡ true → All (LawfulLink count) (links_of ms gs)
+  links-lawful : (ms : List ℕ) (gs : List Range) → every (λ k. ltb k count) ms ≡ true → AllByRecursion (LawfulLink count) (links_of ms gs)
   links-lawful [] gs h = tt
   links-lawful (m ∷ ms) [] h = tt
   links-lawful (m ∷ ms) (g ∷ gs) h =
@@ -58,7 +58,7 @@ module _ (count : ℕ) where
   first-known [] gs n h = absurd (omega arith)
   first-known (m ∷ ms) gs n h = ltb-true m count (and_parts (ltb m count) (every (λ k. ltb k count) ms) h).0
 
-  rest-lawful : (ms : List ℕ) (gs : List Range) → every (λ k. ltb k count) ms ≡ true → All (LawfulLink count) (net_from ms gs).rest
+  rest-lawful : (ms : List ℕ) (gs : List Range) → every (λ k. ltb k count) ms ≡ true → AllByRecursion (LawfulLink count) (net_from ms gs).rest
   rest-lawful [] gs h = tt
   rest-lawful (m ∷ ms) gs h = links-lawful ms gs (and_parts (ltb m count) (every (λ k. ltb k count) ms) h).1
 
@@ -92,7 +92,7 @@ motif-lawful m b w e h = record { named = m.name.named; weighs = w; body = subst
 vec_long : {X Y : Type 0} (xs : List X) (f : X → Y) (n : ℕ) → n ≡ length xs → length (map f xs) ≡ n
 vec_long xs f n e = length-map xs f ∙ sym e
 
-pub chapter_lawful : (c : Chapter) → All LawfulMotif (map motif_entry (motifs_in c.book)) → Codes (row_of c) → LawfulPage (page_of c)
+pub chapter_lawful : (c : Chapter) → AllByRecursion LawfulMotif (map motif_entry (motifs_in c.book)) → Codes (row_of c) → LawfulPage (page_of c)
 chapter_lawful c ms cs =
     let b = c.book in
     let count = vec_len b.motifs in
@@ -106,11 +106,11 @@ chapter_lawful c ms cs =
       motifs = ms;
       motif_names_lem = ap distinct (map-map (λ m. m.name) motif_entry (motifs_in b)) ∙ b.motifnames;
       few_motifs = omega arith;
-      rules = subst (λ n. All (LawfulRule n) (map rule_entry (rules_in b))) (sym motifs) (by_test (known count) (LawfulRule count) rule_entry (rule-lawful count) (rules_in b) b.known);
+      rules = subst (λ n. AllByRecursion (LawfulRule n) (map rule_entry (rules_in b))) (sym motifs) (by_test (known count) (LawfulRule count) rule_entry (rule-lawful count) (rules_in b) b.known);
       rule_names_lem = ap distinct (map-map (λ r. r.name) rule_entry (rules_in b)) ∙ b.rulenames;
       few_rules = omega arith;
       row = cs;
       few_boxes = omega (arith, c.row.ok.0);
-      marks = subst (λ n. All (LawfulMark n) (marks_of c)) (sym motifs) (subst (All (LawfulMark count)) (map-id (marks_of c)) (by_test (held count) (LawfulMark count) (λ m. m) (mark-lawful count) (marks_of c) c.held));
+      marks = subst (λ n. AllByRecursion (LawfulMark n) (marks_of c)) (sym motifs) (subst (AllByRecursion (LawfulMark count)) (map-id (marks_of c)) (by_test (held count) (LawfulMark count) (λ m. m) (mark-lawful count) (marks_of c) c.held));
       few_marks = omega (arith, c.marks.ok.0);
     }

@@ -3,7 +3,7 @@ use Rattle.std.proofs.Common.{◌≡◌, ℕ, zero, suc, ◌+◌, ◌*◌, ◌<�
 use Rattle.std.proofs.lemmas.Fmt.{length-decimal-le}
 use Rattle.std.proofs.ByRecursion.{All-drop, All-get_or, All-map, All-take, All-weaker}
 use Rattle.std.proofs.lemmas.Bool.{and_parts, leb-true}
-use Rattle.std.specs.List.{AllByRecursion as All}
+use Rattle.std.specs.List.{AllByRecursion}
 use Rattle.entry.specs.Lists.{every}
 use Rattle.entry.specs.Names.{is_letter, is_name}
 use Rattle.text.specs.Pages.{Page, motif_names_in}
@@ -28,13 +28,13 @@ boxes-fit (c ∷ cs) a h =
     let u = codes_field (c ∷ cs) in
     omega (arith, length-append u [], length-append (word_of (pos c)) (behind 32 (words_of (map pos cs))), word-short c a.0, words_short cs a.1)
 
-cut-fit : (n : ℕ) (cs : List ℕ) → Codes cs → All (λ x. Short (boxes_line x)) (cut n cs)
+cut-fit : (n : ℕ) (cs : List ℕ) → Codes cs → AllByRecursion (λ x. Short (boxes_line x)) (cut n cs)
 cut-fit zero cs a = tt
 cut-fit (suc n) [] a = tt
 cut-fit (suc n) (c ∷ cs) a =
     (boxes-fit (take 33 (c ∷ cs)) (All-take (λ x. x ≤ 65535) 33 (c ∷ cs) a) (omega (arith, length-take 33 (c ∷ cs))), cut-fit n (drop 33 (c ∷ cs)) (All-drop (λ x. x ≤ 65535) 33 (c ∷ cs) a))
 
-pub boxes_short : (p : Page) → LawfulPage p → All Short (boxes_lines p)
+pub boxes_short : (p : Page) → LawfulPage p → AllByRecursion Short (boxes_lines p)
 boxes_short p l = All-map Short boxes_line (pieces p.row) (cut-fit (length p.row) p.row l.row)
 
 name-short : (n : List ℕ) → is_name n ≡ true → length n ≤ 8
@@ -48,7 +48,7 @@ mark-fits n start end h s e =
     let v = word_of (pos end) in
     omega (arith, name-short n h, word-short start (omega arith), word-short end (omega arith), length-append n (44 ∷ (u ++ (44 ∷ (v ++ [])))), length-append u (44 ∷ (v ++ [])), length-append v [])
 
-pub marks_short : (p : Page) → LawfulPage p → All Short (mark_lines p)
+pub marks_short : (p : Page) → LawfulPage p → AllByRecursion Short (mark_lines p)
 marks_short p l =
     let names = motif_names_in p in
     All-map Short (mark_of names) p.marks (All-weaker (LawfulMark (length p.motifs)) (λ m. Short (mark_of names m)) (λ m h.

@@ -3,13 +3,13 @@ use Rattle.std.proofs.Common.{◌≡◌, ℕ, ◌+◌, ◌<◌, Bool, true, fals
 use Rattle.std.proofs.lemmas.Slice.Eq.{bytes_eq-Decides}
 use Rattle.std.proofs.lemmas.List.{map-append}
 use Rattle.std.proofs.lemmas.Bool.{and_parts, both_ways, not-true, or_from, or_parts}
-use Rattle.std.specs.List.{AllByRecursion as All}
+use Rattle.std.specs.List.{AllByRecursion}
 use Rattle.std.specs.Str.{bytes_eq}
 use Rattle.entry.specs.Lists.{any}
 use Rattle.book.specs.Entries.{distinct, taken}
 use Rattle.writing.proofs.Numbers.{not_same}
 
-all_mid : {X : Type 0} (P : X → Type 0) (done : List X) (x : X) (rest : List X) → All P (done ++ x ∷ rest) → P x
+all_mid : {X : Type 0} (P : X → Type 0) (done : List X) (x : X) (rest : List X) → AllByRecursion P (done ++ x ∷ rest) → P x
 all_mid P [] x rest a = a.0
 all_mid P (d ∷ done) x rest a = all_mid P done x rest a.1
 
@@ -24,18 +24,18 @@ free_mid (m ∷ done) n rest d =
     let other = any_mid (bytes_eq m) done n rest (not-true (taken m (done ++ n ∷ rest)) k.0) in
     or_from (bytes_eq n m) (taken n done) (not_same n m (λ e. both_ways (bytes_eq m n) other ((bytes_eq-Decides m n).1 (sym e)))) (free_mid done n rest k.1)
 
-pub all_parts : {X : Type 0} (P : X → Type 0) (xs ys : List X) → All P (xs ++ ys) → All P xs × All P ys
+pub all_parts : {X : Type 0} (P : X → Type 0) (xs ys : List X) → AllByRecursion P (xs ++ ys) → AllByRecursion P xs × AllByRecursion P ys
 all_parts P [] ys a = (tt, a)
 all_parts P (x ∷ xs) ys a = let k = all_parts P xs ys a.1 in ((a.0, k.0), k.1)
 
-pub all_unmap : {X Y : Type 0} (P : Y → Type 0) (f : X → Y) (xs : List X) → All P (map f xs) → All (λ x. P (f x)) xs
+pub all_unmap : {X Y : Type 0} (P : Y → Type 0) (f : X → Y) (xs : List X) → AllByRecursion P (map f xs) → AllByRecursion (λ x. P (f x)) xs
 all_unmap P f [] a = tt
 all_unmap P f (x ∷ xs) a = (a.0, all_unmap P f xs a.1)
 
 -- x stands behind `done` among all
 module _ {X : Type 0} (all done : List X) (x : X) (rest : List X) (e : done ++ x ∷ rest ≡ all) where
-  pub holds : (P : X → Type 0) → All P all → P x
-  holds P a = all_mid P done x rest (subst (All P) (sym e) a)
+  pub holds : (P : X → Type 0) → AllByRecursion P all → P x
+  holds P a = all_mid P done x rest (subst (AllByRecursion P) (sym e) a)
 
   pub fewer : length done < length all
   fewer = omega (arith, length-append done (x ∷ rest), ap length e)

@@ -2,7 +2,7 @@
 use Rattle.std.proofs.Common.{◌≡◌, ℕ, zero, suc, ◌+◌, ◌<◌, ◌≤◌, List, [], ◌∷◌, ◌++◌, length, take, drop, sym, refl, ap, ◌∙◌, append_assoc, arith, length-append, length-drop}
 use Rattle.std.proofs.ByRecursion.{All-drop, All-take}
 use Rattle.std.proofs.lemmas.List.{nil_from_length, take-append-drop}
-use Rattle.std.specs.List.{flat_map, AllByRecursion as All}
+use Rattle.std.specs.List.{flat_map, AllByRecursion}
 use Rattle.writing.specs.Lines.{Codes}
 use Rattle.round_trip.specs.Chapters.{cut, pieces}
 
@@ -33,10 +33,10 @@ piece_room cs done x rest e =
 abbrev pub Piece : List ℕ → Type 0
 Piece cs = (0 < length cs) × Codes cs
 
-cut-pieces : (n : ℕ) (cs : List ℕ) → Codes cs → All Piece (cut n cs)
+cut-pieces : (n : ℕ) (cs : List ℕ) → Codes cs → AllByRecursion Piece (cut n cs)
 cut-pieces zero cs a = tt
 cut-pieces (suc n) [] a = tt
 cut-pieces (suc n) (c ∷ cs) a = ((omega arith, All-take (λ x. x ≤ 65535) 33 (c ∷ cs) a), cut-pieces n (drop 33 (c ∷ cs)) (All-drop (λ x. x ≤ 65535) 33 (c ∷ cs) a))
 
-pub pieces-lawful : (cs : List ℕ) → Codes cs → All Piece (pieces cs)
+pub pieces-lawful : (cs : List ℕ) → Codes cs → AllByRecursion Piece (pieces cs)
 pieces-lawful cs a = cut-pieces (length cs) cs a

@@ -2,7 +2,7 @@
 use Rattle.std.proofs.Common.{◌≡◌, ℕ, ◌+◌, ◌<◌, ◌≤◌, true, List, [], ◌∷◌, ◌++◌, length, get_or, Ok, sym, ap, ◌∙◌, subst, arith}
 use Rattle.std.proofs.ByRecursion.{All-get_or, All-map, All-weaker}
 use Rattle.std.proofs.lemmas.List.{flat_map_more, length-map}
-use Rattle.std.specs.List.{AllByRecursion as All}
+use Rattle.std.specs.List.{AllByRecursion}
 use Rattle.entry.specs.Names.{is_name}
 use Rattle.entry.specs.declared.mark.Mark.{Mark}
 use Rattle.text.specs.Pages.{MotifEntry, Page, RuleEntry, motif_names_in}
@@ -34,14 +34,14 @@ pub of_names : (p : Page) (P : ℕ → Type 0) → P (length p.motifs) → P (le
 of_names p P h = subst P (sym (length-map p.motifs (λ m. m.name))) h
 
 module _ (p : Page) (l : LawfulPage p) where
-  pub motifs_lead : All Short (motif_lines p) → Leads (page [] [] [] []) (motif_lines p) (page p.motifs [] [] [])
+  pub motifs_lead : AllByRecursion Short (motif_lines p) → Leads (page [] [] [] []) (motif_lines p) (page p.motifs [] [] [])
   motifs_lead a = in_turn (λ ms. page ms [] [] []) motif_line p.motifs (λ done m rest e.
       motif_taken m (holds p.motifs done m rest e LawfulMotif l.motifs) (page done [] [] [])
       (holds p.motifs done m rest e (λ x. Short (motif_line x)) (all_unmap Short motif_line p.motifs a))
       (free p.motifs done m rest e (λ x. x.name) l.motif_names_lem)
       (omega (arith, fewer p.motifs done m rest e, l.few_motifs)))
 
-  pub rules_lead : All Short (rule_lines p) → Leads (page p.motifs [] [] []) (rule_lines p) (page p.motifs p.rules [] [])
+  pub rules_lead : AllByRecursion Short (rule_lines p) → Leads (page p.motifs [] [] []) (rule_lines p) (page p.motifs p.rules [] [])
   rules_lead a =
       let line = rule_line (motif_names_in p) in
       in_turn (λ rs. page p.motifs rs [] []) line p.rules (λ done r rest e.
@@ -54,7 +54,7 @@ module _ (p : Page) (l : LawfulPage p) where
   piece_taken cs [] h s r = absurd (omega (arith, h.0))
   piece_taken cs (c ∷ x) h s r = boxes_taken c x h.1 (page p.motifs p.rules cs []) s r
 
-  pub boxes_lead : All Short (boxes_lines p) → Leads (page p.motifs p.rules [] []) (boxes_lines p) (page p.motifs p.rules p.row [])
+  pub boxes_lead : AllByRecursion Short (boxes_lines p) → Leads (page p.motifs p.rules [] []) (boxes_lines p) (page p.motifs p.rules p.row [])
   boxes_lead a =
       let all = pieces p.row in
       subst (λ cs. Leads (page p.motifs p.rules [] []) (boxes_lines p) (page p.motifs p.rules cs [])) (pieces-laid p.row)
@@ -63,7 +63,7 @@ module _ (p : Page) (l : LawfulPage p) where
       (holds all done x rest e (λ y. Short (boxes_line y)) (all_unmap Short boxes_line all a)) (omega (arith, piece_room p.row done x rest e, l.few_boxes))
       ∙ ap (λ cs. Ok (page p.motifs p.rules cs [])) (flat_map_more (λ y. y) [] done x)))
 
-  pub marks_lead : All Short (mark_lines p) → Leads (page p.motifs p.rules p.row []) (mark_lines p) p
+  pub marks_lead : AllByRecursion Short (mark_lines p) → Leads (page p.motifs p.rules p.row []) (mark_lines p) p
   marks_lead a =
       let names = motif_names_in p in
       in_turn (λ ks. page p.motifs p.rules p.row ks) (mark_of names) p.marks (λ done m rest e.

@@ -1,6 +1,6 @@
 // What every chapter keeps. Of an element of a list only its reading tells that it fits its type, so all are gone through.
 ghost use Rattle.std.specs.Prelude.{map, Some};
-ghost use Rattle.std.specs.List.{AllByRecursion as All};
+ghost use Rattle.std.specs.List.{AllByRecursion};
 ghost use Rattle.body.specs.Entries.{entries_of, entry_of};
 ghost use Rattle.round_trip.specs.Laws.{LawfulPage, ReadBack};
 ghost use Rattle.text.specs.Pages.{motif_entry, page_of};
@@ -30,7 +30,7 @@ fn item_keeps(item: Item)
 }
 
 fn items_keep(items: &[Item])
-    ensures { All Lawful (map entry_of items.now) }
+    ensures { AllByRecursion Lawful (map entry_of items.now) }
 {
     for item in items {
         item_keeps(*item);
@@ -53,7 +53,7 @@ fn motif_keeps(motif: Motif)
 }
 
 fn motifs_keep(motifs: &[Motif])
-    ensures { All LawfulMotif (map motif_entry motifs.now) }
+    ensures { AllByRecursion LawfulMotif (map motif_entry motifs.now) }
 {
     for motif in motifs {
         motif_keeps(*motif);

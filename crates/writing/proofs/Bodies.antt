@@ -1,7 +1,7 @@
 -- Written bodies are sound and have their shape.
 use Rattle.std.proofs.Common.{◌≡◌, ℕ, ◌<◌, true, false, List, [], ◌∷◌, ◌++◌, map, length, pos, Some, None, Option, sym, refl, ap, ◌∙◌, subst, append_assoc, arith}
 use Rattle.std.proofs.lemmas.List.{append-nil}
-use Rattle.std.specs.List.{AllByRecursion as All}
+use Rattle.std.specs.List.{AllByRecursion}
 use Rattle.shape.specs.declared.kinds.Kind.TheVariants.{Space, Shut, Numeral}
 use Rattle.shape.specs.Follow.{has, misfit}
 use Rattle.shape.specs.Grammar.{body, codes, item, numeral, parted}
@@ -44,7 +44,7 @@ item-start any v l e = start (46 ∷ v) (byte 46 v refl (start v e))
 item-start (one_of cs) v l e =
     start (91 ∷ ((codes_field cs ++ 93 ∷ []) ++ v)) (byte 91 ((codes_field cs ++ 93 ∷ []) ++ v) refl (subst Start (sym (append_assoc (codes_field cs) (93 ∷ []) v)) (codes-start cs (93 ∷ v) l.2 (byte 93 v refl (start v e)))))
 
-items_edge : (es : List Entry) → All Lawful es → Edge (behind 32 (map item_text es))
+items_edge : (es : List Entry) → AllByRecursion Lawful es → Edge (behind 32 (map item_text es))
 items_edge [] a = sounds.edge_end is_numeral (is_number Code)
 items_edge (e ∷ es) a = byte 32 (item_text e ++ behind 32 (map item_text es)) refl (item-start e (behind 32 (map item_text es)) a.0 (items_edge es a.1))
 
@@ -71,7 +71,7 @@ inside_class = ((many (one Numeral) then many (one Space then numeral)) then one
 abbrev Follows : List ℕ → Type 0
 Follows v = (has in_item v ≡ true) × (has items v ≡ true)
 
-class_shut : (w : List ℕ) (ws : List (List ℕ)) (v : List ℕ) → Whole w → All Whole ws → has items v ≡ true → has class_due (w ++ (behind 32 ws ++ 93 ∷ v)) ≡ true
+class_shut : (w : List ℕ) (ws : List (List ℕ)) (v : List ℕ) → Whole w → AllByRecursion Whole ws → has items v ≡ true → has class_due (w ++ (behind 32 ws ++ 93 ∷ v)) ≡ true
 class_shut w [] v h a r = due class_due inside_class w (93 ∷ v) refl refl h.0 h.1 ∙ r
 class_shut w (u ∷ us) v h a r =
     due class_due inside_class w (32 ∷ ((u ++ behind 32 us) ++ 93 ∷ v)) refl refl h.0 h.1 ∙ ap (has class_due) (append_assoc u (behind 32 us) (93 ∷ v)) ∙ class_shut u us v a.0 a.1 r
@@ -96,7 +96,7 @@ first_fits (code c) v l r = code_fits body c v l r.0 (λ w h. due body in_item w
 first_fits any v l r = r.1
 first_fits (one_of cs) v l r = class-fits cs v l.0 l.2 r.1
 
-items_follow : (es : List Entry) → All Lawful es → Follows (behind 32 (map item_text es))
+items_follow : (es : List Entry) → AllByRecursion Lawful es → Follows (behind 32 (map item_text es))
 items_follow [] a = (refl, refl)
 items_follow (e ∷ es) a = let h = item-fits e (behind 32 (map item_text es)) a.0 (items_follow es a.1) in (h, h)
 

@@ -1,6 +1,6 @@
 -- No written line has a byte 10.
 use Rattle.std.proofs.Common.{◌≡◌, ℕ, ◌+◌, ◌≤◌, Bool, true, false, cond, eqb, List, [], ◌∷◌, ◌++◌, length, pos, Some, None, Option, refl, ap, ◌∙◌, arith}
-use Rattle.std.specs.List.{AllByRecursion as All}
+use Rattle.std.specs.List.{AllByRecursion}
 use Rattle.entry.specs.Names.{is_name}
 use Rattle.parts.specs.Parts.{parts, tally}
 use Rattle.parts.proofs.Cuts.{Lacks, parts_first}
@@ -28,12 +28,12 @@ tally-lacks : (c : ℕ) (w : List ℕ) → tally c w ≡ 0 → Lacks c w
 tally-lacks c [] h = tt
 tally-lacks c (x ∷ w) h = picked c x w (eqb x c) refl (tally-lacks c w) h
 
-pub lines_parted : (ls : List (List ℕ)) → All Whole ls → parts 10 (ended ls) ≡ ls ++ [] ∷ []
+pub lines_parted : (ls : List (List ℕ)) → AllByRecursion Whole ls → parts 10 (ended ls) ≡ ls ++ [] ∷ []
 lines_parted [] a = refl
 lines_parted (l ∷ ls) a = parts_first 10 l (ended ls) (tally-lacks 10 l a.0) ∙ ap (λ x. l ∷ x) (lines_parted ls a.1)
 
 -- a line whose fields have none
-line-whole : (a : ℕ) (f : List ℕ) (fs : List (List ℕ)) → eqb a 10 ≡ false → Lacks 10 f → All (Lacks 10) fs → Whole (line_of a (f ∷ fs))
+line-whole : (a : ℕ) (f : List ℕ) (fs : List (List ℕ)) → eqb a 10 ≡ false → Lacks 10 f → AllByRecursion (Lacks 10) fs → Whole (line_of a (f ∷ fs))
 line-whole a f fs o h k = lacks-tally 10 (line_of a (f ∷ fs)) (o, (refl, joined-lacks 10 44 refl f fs h k))
 
 foreign : Foreign 10

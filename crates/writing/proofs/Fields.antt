@@ -1,7 +1,7 @@
 -- A written line, parted into its fields.
 use Rattle.std.proofs.Common.{◌≡◌, ℕ, ◌+◌, false, cond, not, eqb, List, [], ◌∷◌, ◌++◌, length, Some, ap, ◌∙◌, arith}
 use Rattle.std.proofs.lemmas.Bool.{eq-eqb, le-leb}
-use Rattle.std.specs.List.{AllByRecursion as All}
+use Rattle.std.specs.List.{AllByRecursion}
 use Rattle.refusal.specs.Checks.{refuse}
 use Rattle.parts.specs.Parts.{parts, tally}
 use Rattle.parts.proofs.Cuts.{Lacks}
@@ -14,7 +14,7 @@ use Rattle.writing.specs.Joined.{behind}
 use Rattle.writing.specs.Lines.{line_of}
 use Rattle.writing.proofs.Parting.{joined-tally, parted}
 
-module _ (a : ℕ) (f : List ℕ) (fs : List (List ℕ)) (h : Lacks 44 f) (k : All (Lacks 44) fs) where
+module _ (a : ℕ) (f : List ℕ) (fs : List (List ℕ)) (h : Lacks 44 f) (k : AllByRecursion (Lacks 44) fs) where
   its_fields : fields (line_of a (f ∷ fs)) ≡ placed 2 (f ∷ fs)
   its_fields = ap (λ t. placed 2 (cond t (parts 44 (f ++ behind 44 fs)) [])) (le-leb 2 (length (line_of a (f ∷ fs))) (omega arith)) ∙ ap (placed 2) (parted 44 f fs h k)
 

@@ -2,7 +2,7 @@
 use Rattle.std.proofs.Common.{◌≡◌, ℕ, zero, suc, ◌+◌, ◌-◌, ◌<◌, ◌≤◌, Bool, true, false, cond, eqb, leb, List, [], ◌∷◌, ◌++◌, map, length, get_or, take, drop, pos, Some, None, Ok, Err, Option, Result, sym, refl, ap, ◌∙◌, subst, append_assoc, arith, length-append}
 use Rattle.std.proofs.lemmas.List.{append-nil, get_or-append-add, take_all, take-append-le}
 use Rattle.std.proofs.lemmas.Bool.{lt-leb, or_from}
-use Rattle.std.specs.List.{AllByRecursion as All}
+use Rattle.std.specs.List.{AllByRecursion}
 use Rattle.shape.specs.Kinds.{is_numeral}
 use Rattle.parts.specs.Parts.{parts}
 use Rattle.parts.proofs.Cuts.{Lacks, parts_first, parts_last}
@@ -121,7 +121,7 @@ module _ (X : Result Reading ℕ) where
       let ws = words_of (map pos cs) in
       subst (λ x. After (so es None) (parts 32 (91 ∷ x))) (sym (append_assoc (w ++ behind 32 ws) (93 ∷ []) v ∙ append_assoc w (behind 32 ws) (93 ∷ v))) (class_read es [] (91 ∷ []) None c cs v ps h (refl, tt) refl (class-opens es) l.2 (omega (arith, l.1)) cut k)
 
-  items_read : (done : List Entry) (e : Entry) (es : List Entry) → length done + length (e ∷ es) ≤ 16 → All Lawful (e ∷ es) → Ok (so (done ++ e ∷ es) None) ≡ X → After (so done None) (parts 32 (item_text e ++ behind 32 (map item_text es)))
+  items_read : (done : List Entry) (e : Entry) (es : List Entry) → length done + length (e ∷ es) ≤ 16 → AllByRecursion Lawful (e ∷ es) → Ok (so (done ++ e ∷ es) None) ≡ X → After (so done None) (parts 32 (item_text e ++ behind 32 (map item_text es)))
   items_read done e [] room a fin = item_read done e [] [] (omega arith) a.0 cut-end (λ at. fin)
   items_read done e (f ∷ fs) room a fin =
       let next = item_text f ++ behind 32 (map item_text fs) in
@@ -145,11 +145,11 @@ module _ (b : ℕ) (o : Foreign b) where
   item-lacks any l = (o.dot, tt)
   item-lacks (one_of cs) l = (o.opening, append-lacks b (codes_field cs) (93 ∷ []) (codes_lack cs l.2) (o.shutting, tt))
 
-  items_lack : (es : List Entry) → All Lawful es → All (Lacks b) (map item_text es)
+  items_lack : (es : List Entry) → AllByRecursion Lawful es → AllByRecursion (Lacks b) (map item_text es)
   items_lack [] a = tt
   items_lack (e ∷ es) a = (item-lacks e a.0, items_lack es a.1)
 
-  pub body-lacks : (e : Entry) (es : List Entry) → All Lawful (e ∷ es) → Lacks b (body_text (Some (e ∷ es)))
+  pub body-lacks : (e : Entry) (es : List Entry) → AllByRecursion Lawful (e ∷ es) → Lacks b (body_text (Some (e ∷ es)))
   body-lacks e es a = joined-lacks b 32 o.space (item_text e) (map item_text es) (item-lacks e a.0) (items_lack es a.1)
 
 pub body_back : (b : Option (List Entry)) → LawfulBody b → body_of (body_text b) ≡ Ok b

@@ -1,6 +1,6 @@
 -- The laws of written numbers.
 use Rattle.std.proofs.Common.{◌≡◌, ℕ, false, List, [], ◌∷◌, ℤ, is_some, refl, ap}
-use Rattle.std.specs.List.{AllByRecursion as All}
+use Rattle.std.specs.List.{AllByRecursion}
 use Rattle.shape.specs.Kinds.{is_numeral}
 use Rattle.parts.proofs.Cuts.{Lacks}
 use Rattle.word.specs.Numbers.{is_number}
@@ -35,7 +35,7 @@ pub lacks : (c : ℕ) → is_numeral c ≡ false → (m : Limits) (z : ℤ) → 
 lacks c o m z k = every-lacks is_numeral c (word_of z) o (only m z k)
 
 -- what holds of the word of each number holds of all words
-pub each : (P : List ℕ → Type 0) (m : Limits) → ((z : ℤ) → Keeps m z → P (word_of z)) → (zs : List ℤ) → All (Keeps m) zs → All P (words_of zs)
+pub each : (P : List ℕ → Type 0) (m : Limits) → ((z : ℤ) → Keeps m z → P (word_of z)) → (zs : List ℤ) → AllByRecursion (Keeps m) zs → AllByRecursion P (words_of zs)
 each P m h [] a = tt
 each P m h (z ∷ zs) a = (h z a.0, each P m h zs a.1)
 

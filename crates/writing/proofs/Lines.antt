@@ -3,7 +3,7 @@ use Rattle.std.proofs.Common.{◌≡◌, ℕ, ◌+◌, ◌≤◌, true, false, n
 use Rattle.std.proofs.lemmas.List.{append-nil}
 use Rattle.std.proofs.lemmas.Int.{ints}
 use Rattle.std.proofs.lemmas.Bool.{and_parts, le-ltb, lt-leb}
-use Rattle.std.specs.List.{AllByRecursion as All}
+use Rattle.std.specs.List.{AllByRecursion}
 use Rattle.refusal.specs.Checks.{refuse}
 use Rattle.entry.specs.Lists.{every}
 use Rattle.entry.specs.Names.{is_letter, is_name}
@@ -34,7 +34,7 @@ use Rattle.writing.proofs.Words.{back}
 pub code_keeps : (n : ℕ) → n ≤ 65535 → Keeps Code (pos n)
 code_keeps n h = (omega (arith, ints), omega (arith, ints))
 
-pub codes-keep : (cs : List ℕ) → Codes cs → All (Keeps Code) (map pos cs)
+pub codes-keep : (cs : List ℕ) → Codes cs → AllByRecursion (Keeps Code) (map pos cs)
 codes-keep [] a = tt
 codes-keep (c ∷ cs) a = (code_keeps c a.0, codes-keep cs a.1)
 
@@ -94,7 +94,7 @@ module _ (name : List ℕ) (start end : ℕ) (n : is_name name ≡ true) (s : st
   comma_name : Lacks 44 name
   comma_name = name-lacks 44 name refl n
 
-  comma_places : All (Lacks 44) (word_of (pos start) ∷ word_of (pos end) ∷ [])
+  comma_places : AllByRecursion (Lacks 44) (word_of (pos start) ∷ word_of (pos end) ∷ [])
   comma_places = (lacks 44 refl Place (pos start) (place_keeps start s), (lacks 44 refl Place (pos end) (place_keeps end e), tt))
 
   pub mark_read : MarkRead name start end

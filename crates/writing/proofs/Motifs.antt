@@ -1,7 +1,7 @@
 -- Lines of motifs are read back.
 use Rattle.std.proofs.Common.{◌≡◌, ℕ, ◌+◌, not, List, [], ◌∷◌, length, pos, Some, None, Ok, Option, refl, ap, ◌∙◌}
 use Rattle.std.proofs.lemmas.Bool.{le-ltb, lt-leb}
-use Rattle.std.specs.List.{AllByRecursion as All}
+use Rattle.std.specs.List.{AllByRecursion}
 use Rattle.refusal.specs.Checks.{refuse, refused_by}
 use Rattle.parts.proofs.Cuts.{Lacks}
 use Rattle.word.specs.Faults.{raised}
@@ -38,7 +38,7 @@ module _ (m : MotifEntry) (l : LawfulMotif m) where
   comma_name : Lacks 44 m.name
   comma_name = name-lacks 44 m.name refl l.named
 
-  comma_rest : All (Lacks 44) (word_of (pos m.weight) ∷ body_text m.body ∷ [])
+  comma_rest : AllByRecursion (Lacks 44) (word_of (pos m.weight) ∷ body_text m.body ∷ [])
   comma_rest = (lacks 44 refl Code (pos m.weight) (code_keeps m.weight l.weighs), (comma_body m.body l.body, tt))
 
   pub motif_read : MotifRead m

@@ -1,7 +1,7 @@
 -- The names of a written net are names.
 use Rattle.std.proofs.Common.{◌≡◌, ℕ, ◌≤◌, true, false, ◌&&◌, eqb, leb, List, [], ◌∷◌, ◌++◌, map, length, None, sym, refl, ap, ◌∙◌, subst, inl, inr, append_assoc, arith}
 use Rattle.std.proofs.lemmas.Bool.{and_from, and_left, and_parts, eqb-true, leb-true, lt-leb, or_cases, or_from, or_left}
-use Rattle.std.specs.List.{AllByRecursion as All}
+use Rattle.std.specs.List.{AllByRecursion}
 use Rattle.entry.specs.Lists.{every}
 use Rattle.entry.specs.Names.{is_letter, is_name}
 use Rattle.shape.specs.Kinds.{is_any_letter, is_digit, is_numeral}
@@ -64,9 +64,9 @@ leg_start s v l e =
     let whole : (lo ++ (32 ∷ (hi ++ (62 ∷ 32 ∷ n)))) ++ v ≡ lo ++ (32 ∷ (hi ++ (62 ∷ 32 ∷ (n ++ v)))) = append_assoc lo (32 ∷ (hi ++ (62 ∷ 32 ∷ n))) v ∙ ap (λ x. lo ++ (32 ∷ x)) (append_assoc hi (62 ∷ 32 ∷ n) v) in
     start (leg_text s ++ v) (byte 60 ((lo ++ (32 ∷ (hi ++ (62 ∷ 32 ∷ n)))) ++ v) refl (subst Start (sym whole) low))
 
-legs_edge : (ss : List Leg) → All LawfulLeg ss → Edge (behind 32 (map leg_text ss))
+legs_edge : (ss : List Leg) → AllByRecursion LawfulLeg ss → Edge (behind 32 (map leg_text ss))
 legs_edge [] a = sounds.edge_end is_any_letter is_name
 legs_edge (s ∷ ss) a = byte 32 (leg_text s ++ behind 32 (map leg_text ss)) refl (leg_start s (behind 32 (map leg_text ss)) a.0 (legs_edge ss a.1))
 
-pub net_named : (n : List ℕ) (ss : List Leg) → is_name n ≡ true → All LawfulLeg ss → first_fault_of is_any_letter is_name (net_text n ss) ≡ None
+pub net_named : (n : List ℕ) (ss : List Leg) → is_name n ≡ true → AllByRecursion LawfulLeg ss → first_fault_of is_any_letter is_name (net_text n ss) ≡ None
 net_named n ss h a = name-start n (behind 32 (map leg_text ss)) h (legs_edge ss a) 0

@@ -1,7 +1,7 @@
 -- A written net is read back name by name and range by range.
 use Rattle.std.proofs.Common.{◌≡◌, ℕ, ◌+◌, ◌-◌, true, cond, eqb, List, [], ◌∷◌, ◌++◌, map, length, get_or, take, ℤ, Some, None, sym, refl, ap, ◌∙◌, append_assoc, arith, length-append}
 use Rattle.std.proofs.lemmas.List.{get_or-append-add, take_at}
-use Rattle.std.specs.List.{AllByRecursion as All}
+use Rattle.std.specs.List.{AllByRecursion}
 use Rattle.entry.specs.Names.{is_name}
 use Rattle.parts.specs.Parts.{parts}
 use Rattle.parts.proofs.Cuts.{Lacks}
@@ -34,7 +34,7 @@ legs_opened (s ∷ ss) =
     ap (λ x. 32 ∷ x) (leg_opened s (behind 32 (map leg_text ss)))
     ∙ ap (λ x. 32 ∷ (low_part s ++ (32 ∷ (high_part s ++ (32 ∷ (s.name ++ x)))))) (legs_opened ss)
 
-legs_lack : (ss : List Leg) → All LawfulLeg ss → All (Lacks 32) (leg_parts ss)
+legs_lack : (ss : List Leg) → AllByRecursion LawfulLeg ss → AllByRecursion (Lacks 32) (leg_parts ss)
 legs_lack [] a = tt
 legs_lack (s ∷ ss) a =
     let l = a.0 in
@@ -42,7 +42,7 @@ legs_lack (s ∷ ss) a =
     let high = append-lacks 32 (word_of s.high) (62 ∷ []) (lacks 32 refl Shift s.high l.highs) (refl, tt) in
     ((refl, low), (high, (name-lacks 32 s.name refl l.named, legs_lack ss a.1)))
 
-net-parts : (n : List ℕ) (ss : List Leg) → is_name n ≡ true → All LawfulLeg ss → parts 32 (net_text n ss) ≡ n ∷ leg_parts ss
+net-parts : (n : List ℕ) (ss : List Leg) → is_name n ≡ true → AllByRecursion LawfulLeg ss → parts 32 (net_text n ss) ≡ n ∷ leg_parts ss
 net-parts n ss h a = ap (λ x. parts 32 (n ++ x)) (legs_opened ss) ∙ parted 32 n (leg_parts ss) (name-lacks 32 n refl h) (legs_lack ss a)
 
 -- a part that does not begin with `<` is a name
@@ -68,7 +68,7 @@ high_is z k =
 bounds_are : (s : Leg) → LawfulLeg s → bounds_of (low_part s) (high_part s) ≡ Some (record { low = s.low; high = s.high })
 bounds_are s l i = both (back Shift s.low l.lows i) (high_is s.high l.highs i)
 
-legs_told : (at : ℕ) (ss : List Leg) → All LawfulLeg ss → tokens at (leg_parts ss) ≡ leg_tokens at ss
+legs_told : (at : ℕ) (ss : List Leg) → AllByRecursion LawfulLeg ss → tokens at (leg_parts ss) ≡ leg_tokens at ss
 legs_told at [] a = refl
 legs_told at (s ∷ ss) a =
     let g : Tok = range at (record { low = s.low; high = s.high }) in
@@ -77,6 +77,6 @@ legs_told at (s ∷ ss) a =
     ap (λ o. range_or o (λ h. range at h ∷ tokens on rest) (name at (low_part s) ∷ tokens (at + length (low_part s) + 1) (high_part s ∷ rest))) (bounds_are s a.0)
     ∙ ap (λ ts. g ∷ ts) (name_token on s.name (leg_parts ss) (name-lacks 60 s.name refl a.0.named) ∙ ap (λ ts. name on s.name ∷ ts) (legs_told (on + length s.name + 1) ss a.1))
 
-pub net_back : (n : List ℕ) (ss : List Leg) → is_name n ≡ true → All LawfulLeg ss → net_tokens (net_text n ss) ≡ name 0 n ∷ leg_tokens (0 + length n + 1) ss
+pub net_back : (n : List ℕ) (ss : List Leg) → is_name n ≡ true → AllByRecursion LawfulLeg ss → net_tokens (net_text n ss) ≡ name 0 n ∷ leg_tokens (0 + length n + 1) ss
 net_back n ss h a =
     ap (tokens 0) (net-parts n ss h a) ∙ name_token 0 n (leg_parts ss) (name-lacks 60 n refl h) ∙ ap (λ ts. name 0 n ∷ ts) (legs_told (0 + length n + 1) ss a)

@@ -1,7 +1,7 @@
 -- A written net has its shape.
 use Rattle.std.proofs.Common.{◌≡◌, ℕ, true, cond, ◌&&◌, leb, List, [], ◌∷◌, ◌++◌, map, length, None, refl, ap, ◌∙◌, append_assoc, arith}
 use Rattle.std.proofs.lemmas.Bool.{and_parts, leb-true, or_left}
-use Rattle.std.specs.List.{AllByRecursion as All}
+use Rattle.std.specs.List.{AllByRecursion}
 use Rattle.entry.specs.Lists.{every}
 use Rattle.entry.specs.Names.{is_letter, is_name}
 use Rattle.shape.specs.declared.kinds.Kind.TheVariants.{Space, Star, Dot, Open, Shut, Less, More, Numeral, Letter, Other}
@@ -75,9 +75,9 @@ leg_fits s v l =
     let all : (lo ++ (32 ∷ (hi ++ (62 ∷ 32 ∷ n)))) ++ v ≡ lo ++ (32 ∷ (hi ++ (62 ∷ 32 ∷ (n ++ v)))) = append_assoc lo (32 ∷ (hi ++ (62 ∷ 32 ∷ n))) v ∙ ap (λ x. lo ++ (32 ∷ x)) (append_assoc hi (62 ∷ 32 ∷ n) v) in
     ap (has low_due) all ∙ due low_due in_low lo (32 ∷ (hi ++ (62 ∷ 32 ∷ (n ++ v)))) refl refl a.0 a.1 ∙ due high_due in_high hi (62 ∷ 32 ∷ (n ++ v)) refl refl b.0 b.1 ∙ name-fits n v l.named
 
-legs_fit : (ss : List Leg) → All LawfulLeg ss → has in_name (behind 32 (map leg_text ss)) ≡ true
+legs_fit : (ss : List Leg) → AllByRecursion LawfulLeg ss → has in_name (behind 32 (map leg_text ss)) ≡ true
 legs_fit [] a = refl
 legs_fit (s ∷ ss) a = leg_fits s (behind 32 (map leg_text ss)) a.0 ∙ legs_fit ss a.1
 
-pub net_shaped : (n : List ℕ) (ss : List Leg) → is_name n ≡ true → All LawfulLeg ss → misfit net (net_text n ss) ≡ None
+pub net_shaped : (n : List ℕ) (ss : List Leg) → is_name n ≡ true → AllByRecursion LawfulLeg ss → misfit net (net_text n ss) ≡ None
 net_shaped n ss h a = fits net (net_text n ss) (name-fits n (behind 32 (map leg_text ss)) h ∙ legs_fit ss a)

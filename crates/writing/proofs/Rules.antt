@@ -1,7 +1,7 @@
 -- Lines of rules are read back.
 use Rattle.std.proofs.Common.{◌≡◌, ℕ, ◌+◌, false, not, eqb, List, [], ◌∷◌, ◌++◌, map, length, get_or, None, Ok, refl, ap, ◌∙◌}
 use Rattle.std.proofs.lemmas.Bool.{le-ltb, lt-leb}
-use Rattle.std.specs.List.{AllByRecursion as All}
+use Rattle.std.specs.List.{AllByRecursion}
 use Rattle.refusal.specs.Checks.{refuse}
 use Rattle.parts.proofs.Cuts.{Lacks}
 use Rattle.shape.specs.Kinds.{is_numeral}
@@ -46,7 +46,7 @@ module _ (b : ℕ) (o : Foreign b) where
       let high : Lacks b (hi ++ (62 ∷ 32 ∷ s.name)) = append-lacks b hi (62 ∷ 32 ∷ s.name) (lacks b o.numeral Shift s.high l.highs) end in
       (o.less, append-lacks b lo (32 ∷ (hi ++ (62 ∷ 32 ∷ s.name))) (lacks b o.numeral Shift s.low l.lows) (o.space, high))
 
-  legs_lack : (ss : List Leg) → All LawfulLeg ss → All (Lacks b) (map leg_text ss)
+  legs_lack : (ss : List Leg) → AllByRecursion LawfulLeg ss → AllByRecursion (Lacks b) (map leg_text ss)
   legs_lack [] a = tt
   legs_lack (s ∷ ss) a = (leg_lacks s a.0, legs_lack ss a.1)
 
@@ -66,7 +66,7 @@ module _ (names : List (List ℕ)) (r : RuleEntry) (n : LawfulNames names) (h : 
   comma_name : Lacks 44 r.name
   comma_name = name-lacks 44 r.name refl h.named
 
-  comma_net : All (Lacks 44) (net_field names r.net ∷ [])
+  comma_net : AllByRecursion (Lacks 44) (net_field names r.net ∷ [])
   comma_net = (net-lacks 44 (record { numeral = refl; letter = refl; space = refl; less = refl; more = refl }) names r n h, tt)
 
   pub rule_read : RuleRead names r

@@ -1,6 +1,6 @@
 -- The shapes of written numbers.
 use Rattle.std.proofs.Common.{◌≡◌, ℕ, ◌<◌, true, cond, List, [], ◌∷◌, ◌++◌, length, Some, None, refl, ap, ◌∙◌, arith}
-use Rattle.std.specs.List.{AllByRecursion as All}
+use Rattle.std.specs.List.{AllByRecursion}
 use Rattle.shape.specs.declared.kinds.Kind.TheVariants.{Space, Star, Dot, Open, Shut, Less, More, Numeral, Letter, Other}
 use Rattle.shape.specs.Kinds.{is_any_letter, is_numeral, kind_of}
 use Rattle.shape.specs.Shape.{Shape, one, ◌then◌, many}
@@ -56,9 +56,9 @@ pub shaped : (w : List ℕ) → Whole w → misfit numeral w ≡ None
 shaped [] h = absurd (omega (arith, h.1))
 shaped (b ∷ w) h = fits numeral (b ∷ w) (turn numeral digits b w (plain-first b w h.0) refl ∙ all_digits w (plain-rest b w h.0))
 
-first : (w : List ℕ) (ws : List (List ℕ)) → Whole w → All Whole ws → has codes (w ++ behind 32 ws) ≡ true
+first : (w : List ℕ) (ws : List (List ℕ)) → Whole w → AllByRecursion Whole ws → has codes (w ++ behind 32 ws) ≡ true
 first w [] h a = due codes in_code w [] refl refl h.0 h.1
 first w (v ∷ vs) h a = due codes in_code w (behind 32 (v ∷ vs)) refl refl h.0 h.1 ∙ first v vs a.0 a.1
 
-pub joined-shaped : (w : List ℕ) (ws : List (List ℕ)) → Whole w → All Whole ws → misfit codes (w ++ behind 32 ws) ≡ None
+pub joined-shaped : (w : List ℕ) (ws : List (List ℕ)) → Whole w → AllByRecursion Whole ws → misfit codes (w ++ behind 32 ws) ≡ None
 joined-shaped w ws h a = fits codes (w ++ behind 32 ws) (first w ws h a)

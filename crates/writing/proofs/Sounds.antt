@@ -2,7 +2,7 @@
 use Rattle.std.proofs.Common.{◌≡◌, ℕ, ◌+◌, Bool, true, false, cond, not, ◌&&◌, List, [], ◌∷◌, ◌++◌, None, sym, refl, ap, ◌∙◌, subst, append_assoc}
 use Rattle.std.proofs.lemmas.List.{append-nil}
 use Rattle.std.proofs.lemmas.Bool.{and_parts}
-use Rattle.std.specs.List.{AllByRecursion as All}
+use Rattle.std.specs.List.{AllByRecursion}
 use Rattle.refusal.specs.Checks.{refuse}
 use Rattle.entry.specs.Lists.{every}
 use Rattle.word.specs.Runs.{fault_from, first_fault_of, front}
@@ -57,13 +57,13 @@ module _ (part : ℕ → Bool) (sound : List ℕ → Bool) where
 
   -- joined words, and what follows them
   module _ (gap : part 32 ≡ false) where
-    edge_words : (ws : List (List ℕ)) (v : List ℕ) → All Good ws → Edge v → Edge (behind 32 ws ++ v)
+    edge_words : (ws : List (List ℕ)) (v : List ℕ) → AllByRecursion Good ws → Edge v → Edge (behind 32 ws ++ v)
     edge_words [] v a e = e
     edge_words (w ∷ ws) v a e =
         edge_byte 32 ((w ++ behind 32 ws) ++ v) gap (subst Start (sym (append_assoc w (behind 32 ws) v)) (start_word w (behind 32 ws ++ v) a.0 (edge_words ws v a.1 e)))
 
-    pub start_words : (w : List ℕ) (ws : List (List ℕ)) (v : List ℕ) → Good w → All Good ws → Edge v → Start ((w ++ behind 32 ws) ++ v)
+    pub start_words : (w : List ℕ) (ws : List (List ℕ)) (v : List ℕ) → Good w → AllByRecursion Good ws → Edge v → Start ((w ++ behind 32 ws) ++ v)
     start_words w ws v g a e = subst Start (sym (append_assoc w (behind 32 ws) v)) (start_word w (behind 32 ws ++ v) g (edge_words ws v a e))
 
-    pub joined-sound : (w : List ℕ) (ws : List (List ℕ)) → Good w → All Good ws → first_fault_of part sound (w ++ behind 32 ws) ≡ None
+    pub joined-sound : (w : List ℕ) (ws : List (List ℕ)) → Good w → AllByRecursion Good ws → first_fault_of part sound (w ++ behind 32 ws) ≡ None
     joined-sound w ws g a = subst Start (append-nil (w ++ behind 32 ws)) (start_words w ws [] g a edge_end) 0

@@ -4,7 +4,7 @@ use lib.Signed.{lt_z}
 use Rattle.std.proofs.ByRecursion.{All-get_or}
 use Rattle.std.proofs.lemmas.Int.{ints}
 use Rattle.std.proofs.lemmas.Bool.{lt-leb, or_from}
-use Rattle.std.specs.List.{AllByRecursion as All}
+use Rattle.std.specs.List.{AllByRecursion}
 use Rattle.refusal.specs.Checks.{refuse}
 use Rattle.refusal.specs.declared.Refusal.TheVariants.{BackwardRange, BadNumber}
 use Rattle.entry.specs.Faults.{outside, range_fault}
@@ -43,11 +43,11 @@ module _ (names : List (List ℕ)) (n : LawfulNames names) where
   pub leg_lawful : (l : Link) → LawfulLink (length names) l → LawfulLeg (leg_of names l)
   leg_lawful l h = record { lows = h.lows; highs = h.highs; named = All-get_or (λ w. is_name w ≡ true) names l.motif [] h.known n.named }
 
-  pub legs_lawful : (ls : List Link) → All (LawfulLink (length names)) ls → All LawfulLeg (map (leg_of names) ls)
+  pub legs_lawful : (ls : List Link) → AllByRecursion (LawfulLink (length names)) ls → AllByRecursion LawfulLeg (map (leg_of names) ls)
   legs_lawful [] a = tt
   legs_lawful (l ∷ ls) a = (leg_lawful l a.0, legs_lawful ls a.1)
 
-  legs_forward : (at : ℕ) (ls : List Link) → All (LawfulLink (length names)) ls → backward (leg_tokens at (map (leg_of names) ls)) ≡ None
+  legs_forward : (at : ℕ) (ls : List Link) → AllByRecursion (LawfulLink (length names)) ls → backward (leg_tokens at (map (leg_of names) ls)) ≡ None
   legs_forward at [] a = refl
   legs_forward at (l ∷ ls) a =
       let next = next_at at (leg_of names l) in
@@ -59,7 +59,7 @@ module _ (names : List (List ℕ)) (n : LawfulNames names) where
       let s = leg_of names l in
       ap (λ t. refuse t (name_at at s) (names_over (k + 1) (leg_tokens (next_at at s) (map (leg_of names) ls)))) (lt-leb 12 k (omega arith)) ∙ legs_few (next_at at s) (k + 1) ls (omega arith)
 
-  legs_steps : (at : ℕ) (ls : List Link) → All (LawfulLink (length names)) ls → steps_from names missing (leg_tokens at (map (leg_of names) ls)) ≡ Ok ls
+  legs_steps : (at : ℕ) (ls : List Link) → AllByRecursion (LawfulLink (length names)) ls → steps_from names missing (leg_tokens at (map (leg_of names) ls)) ≡ Ok ls
   legs_steps at [] a = refl
   legs_steps at (l ∷ ls) a =
       let s = leg_of names l in

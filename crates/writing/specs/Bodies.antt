@@ -1,6 +1,6 @@
 -- Bodies as they are written.
 use Rattle.std.specs.Prelude.{◌≡◌, ℕ, ◌<◌, ◌≤◌, List, [], ◌∷◌, ◌++◌, map, length, Some, None, Ok, Option}
-use Rattle.std.specs.List.{AllByRecursion as All}
+use Rattle.std.specs.List.{AllByRecursion}
 use Rattle.shape.specs.Follow.{misfit}
 use Rattle.shape.specs.Grammar.{body}
 use Rattle.shape.specs.Kinds.{is_numeral}
@@ -32,7 +32,7 @@ Lawful (one_of cs) = (0 < length cs) × (length cs ≤ 8) × Codes cs
 -- a body has 1 to 16 items
 abbrev pub LawfulBody : Option (List Entry) → Type 0
 LawfulBody None = Unit {0}
-LawfulBody (Some es) = (0 < length es) × (length es ≤ 16) × All Lawful es
+LawfulBody (Some es) = (0 < length es) × (length es ≤ 16) × AllByRecursion Lawful es
 
 pub record Bodies : Type 0 where
   pub body_sound : (b : Option (List Entry)) → LawfulBody b → first_fault_of is_numeral (is_number Code) (body_text b) ≡ None

@@ -1,12 +1,11 @@
 -- Lines ended by byte 10, and parted there again.
-use Rattle.std.specs.Prelude.{◌≡◌, ℕ, ◌≤◌, true, List, [], ◌∷◌, ◌++◌, length}
-use Rattle.std.specs.List.{AllByRecursion as All}
+use Rattle.std.specs.Prelude.{◌≡◌, ℕ, ◌≤◌, true, List, [], ◌∷◌, ◌++◌}
+use Rattle.std.specs.List.{AllByRecursion}
 use Rattle.entry.specs.Names.{is_name}
 use Rattle.parts.specs.Parts.{parts, tally}
-use Rattle.text.specs.Pages.{MotifEntry, RuleEntry}
+use Rattle.text.specs.Pages.{MotifEntry}
 use Rattle.writing.specs.Lines.{Codes, boxes_line, mark_line}
 use Rattle.writing.specs.Motifs.{LawfulMotif, motif_line}
-use Rattle.writing.specs.Rules.{LawfulNames, LawfulRule, rule_line}
 
 -- `ended ls`       the lines, each ended by byte 10
 abbrev pub ended : List (List ℕ) → List ℕ
@@ -22,5 +21,4 @@ pub record Breaks : Type 0 where
   pub boxes_whole : (c : ℕ) (cs : List ℕ) → Codes (c ∷ cs) → Whole (boxes_line (c ∷ cs))
   pub mark_whole : (name : List ℕ) (start end : ℕ) → is_name name ≡ true → start ≤ 20000 → end ≤ 20000 → Whole (mark_line name start end)
   pub motif_whole : (m : MotifEntry) → LawfulMotif m → Whole (motif_line m)
-  pub rule_whole : (names : List (List ℕ)) (r : RuleEntry) → LawfulNames names → LawfulRule (length names) r → Whole (rule_line names r)
-  pub lines_parted : (ls : List (List ℕ)) → All Whole ls → parts 10 (ended ls) ≡ ls ++ [] ∷ []
+  pub lines_parted : (ls : List (List ℕ)) → AllByRecursion Whole ls → parts 10 (ended ls) ≡ ls ++ [] ∷ []

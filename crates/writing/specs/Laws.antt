@@ -1,6 +1,6 @@
 -- Laws of written numbers: what the reader makes of a number, and of numbers joined with spaces.
 use Rattle.std.specs.Prelude.{◌≡◌, ℕ, ◌<◌, true, false, List, ◌∷◌, length, ℤ, Some, None}
-use Rattle.std.specs.List.{AllByRecursion as All}
+use Rattle.std.specs.List.{AllByRecursion}
 use Rattle.entry.specs.Lists.{every}
 use Rattle.shape.specs.Follow.{misfit}
 use Rattle.shape.specs.Grammar.{codes, numeral}
@@ -33,7 +33,7 @@ Shaped = (m : Limits) (z : ℤ) → Keeps m z → misfit numeral (word_of z) ≡
 
 -- what holds of one or more numbers, where all of them keep their limits
 abbrev pub OfSome : (Limits → List ℤ → Type 0) → Type 0
-OfSome P = (m : Limits) (z : ℤ) (zs : List ℤ) → All (Keeps m) (z ∷ zs) → P m (z ∷ zs)
+OfSome P = (m : Limits) (z : ℤ) (zs : List ℤ) → AllByRecursion (Keeps m) (z ∷ zs) → P m (z ∷ zs)
 
 -- the parts at spaces are the words again
 abbrev pub Parted : Type 0

@@ -1,6 +1,6 @@
 -- Lines of boxes and of marks as they are written, and what the reader makes of them.
 use Rattle.std.specs.Prelude.{◌≡◌, ℕ, ◌+◌, ◌<◌, ◌≤◌, true, List, [], ◌∷◌, map, length, pos, Some, None, Ok}
-use Rattle.std.specs.List.{AllByRecursion as All}
+use Rattle.std.specs.List.{AllByRecursion}
 use Rattle.entry.specs.Names.{is_name}
 use Rattle.line.specs.Lines.{line_fault}
 use Rattle.line.specs.Said.{boxes, line_says, mark}
@@ -28,7 +28,7 @@ mark_line name start end = line_of 115 (name ∷ word_of (pos start) ∷ word_of
 
 -- codes have at most 16 bits
 abbrev pub Codes : List ℕ → Type 0
-Codes cs = All (λ c. c ≤ 65535) cs
+Codes cs = AllByRecursion (λ c. c ≤ 65535) cs
 
 -- a line of boxes has no fault, and says its codes
 pub record BoxesRead (cs : List ℕ) : Type 0 where

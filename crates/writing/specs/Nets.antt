@@ -1,6 +1,6 @@
 -- Nets as they are written: the name of the first motif, and for each step its range and the name that it leads to.
 use Rattle.std.specs.Prelude.{◌≡◌, ℕ, ◌+◌, true, List, [], ◌∷◌, ◌++◌, map, length, ℤ, None}
-use Rattle.std.specs.List.{AllByRecursion as All}
+use Rattle.std.specs.List.{AllByRecursion}
 use Rattle.entry.specs.Names.{is_name}
 use Rattle.shape.specs.Follow.{misfit}
 use Rattle.shape.specs.Grammar.{net}
@@ -8,7 +8,7 @@ use Rattle.shape.specs.Kinds.{is_any_letter, is_numeral}
 use Rattle.word.specs.Numbers.{is_number}
 use Rattle.word.specs.Runs.{first_fault_of}
 use Rattle.word.specs.declared.limits.Limits.TheVariants.{Shift}
-use Rattle.net.specs.Tokens.{Tok, name, net_tokens, range}
+use Rattle.net.specs.Tokens.{Tok, name, range}
 use Rattle.writing.specs.Joined.{joined}
 use Rattle.writing.specs.Numerals.{Keeps, word_of}
 
@@ -45,9 +45,8 @@ leg_tokens at (s ∷ ss) =
     let on = at + length (low_part s) + 1 + length (high_part s) + 1 in
     range at (record { low = s.low; high = s.high }) ∷ name on s.name ∷ leg_tokens (on + length s.name + 1) ss
 
--- the numbers of a net keep their limits, its names are names, it has its shape, and it is read back name by name and range by range
+-- the numbers of a net keep their limits, its names are names, and it has its shape
 pub record Nets : Type 0 where
-  pub net_sound : (n : List ℕ) (ss : List Leg) → is_name n ≡ true → All LawfulLeg ss → first_fault_of is_numeral (is_number Shift) (net_text n ss) ≡ None
-  pub net_named : (n : List ℕ) (ss : List Leg) → is_name n ≡ true → All LawfulLeg ss → first_fault_of is_any_letter is_name (net_text n ss) ≡ None
-  pub net_shaped : (n : List ℕ) (ss : List Leg) → is_name n ≡ true → All LawfulLeg ss → misfit net (net_text n ss) ≡ None
-  pub net_back : (n : List ℕ) (ss : List Leg) → is_name n ≡ true → All LawfulLeg ss → net_tokens (net_text n ss) ≡ name 0 n ∷ leg_tokens (0 + length n + 1) ss
+  pub net_sound : (n : List ℕ) (ss : List Leg) → is_name n ≡ true → AllByRecursion LawfulLeg ss → first_fault_of is_numeral (is_number Shift) (net_text n ss) ≡ None
+  pub net_named : (n : List ℕ) (ss : List Leg) → is_name n ≡ true → AllByRecursion LawfulLeg ss → first_fault_of is_any_letter is_name (net_text n ss) ≡ None
+  pub net_shaped : (n : List ℕ) (ss : List Leg) → is_name n ≡ true → AllByRecursion LawfulLeg ss → misfit net (net_text n ss) ≡ None

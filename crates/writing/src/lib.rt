@@ -44,14 +44,14 @@ pub fn breaks_stand() -> u8
     0
 }
 
-// The numbers and names of a written net are sound, it has its shape, and its names and ranges are read back.
+// The numbers and names of a written net are sound, and it has its shape.
 pub fn nets_stand() -> u8
     ensures { Nets }
 {
     0
 }
 
-// A line of a rule is read back, and taken where its motifs are known, its name is free and there is room.
+// A written net is read back; a line of a rule has no byte 10, is read back, and is taken where its motifs are known, its name is free and there is room.
 pub fn rules_stand() -> u8
     ensures { Rules }
 {

@@ -1,4 +1,4 @@
-use Rattle.std.proofs.Common.{◌≡◌, ◌+◌, ◌≤◌, ◌∷◌, length, sym, refl, ap, ◌∙◌, arith}
+use Rattle.std.proofs.Common.{◌≡◌, ◌+◌, ◌∷◌, refl, arith}
 use Rattle.std.specs.List.{between}
 use Rattle.net.specs.Tokens.{name, tokens_from}
 use Rattle.parts.specs.Parts.{Part}
