@@ -1,14 +1,13 @@
 -- The cells of a table of runs.
-use Rattle.std.proofs.Common.{◌≡◌, ℕ, zero, suc, ◌+◌, ◌-◌, ◌*◌, ◌<◌, ◌≤◌, Bool, true, false, cond, eqb, ltb, leb, ◌⊎◌, List, length, get_or, replicate, Some, None, sym, refl, ap, ◌∙◌, subst, ap₂, inl, inr, ⊎_elim, arith}
+use Rattle.std.proofs.Common.{◌≡◌, ℕ, ◌+◌, ◌-◌, ◌*◌, ◌<◌, ◌≤◌, Bool, true, false, cond, ltb, List, get_or, replicate, Some, None, sym, refl, ap, ◌∙◌, ap₂, ⊎_elim, arith}
 use Rattle.std.proofs.lemmas.List.{get_or-replicate, length-replicate, get_or_past}
 use Rattle.std.proofs.lemmas.Bool.{cases_lt}
 use Rattle.std.proofs.lemmas.Bool.Decides.{nat_tests}
 use Rattle.forecast.specs.declared.runs.Runs.{Runs}
-use Rattle.forecast.specs.Runs.{is_run, number_at, Put}
+use Rattle.forecast.specs.Runs.{is_run, number_at}
 use Rattle.forecast.specs.Forecasts.{is_row_large, is_some_large, forecast_fault}
 use Rattle.forecast.proofs.Tests.{none_at, none_pass}
 use Rattle.refusal.specs.Checks.{refuse}
-use Rattle.refusal.specs.declared.Refusal.{Refusal}
 use Rattle.refusal.specs.declared.Refusal.TheVariants.{SourceTooLong, ForecastTooLarge}
 
 zeros : (n e : ℕ) → ◌≡◌ {A = ℕ} (get_or (replicate n 0) e 0) 0

@@ -1,13 +1,13 @@
 -- Jobs whose reading is worked out in full.
 use Rattle.std.specs.Prelude.{◌≡◌, ℕ, List, [], ◌∷◌, ◌++◌, pos, negsuc, Some, None, codes}
-use Rattle.entry.specs.Rules.{Link, Net}
+use Rattle.entry.specs.Rules.{Link}
 use Rattle.body.specs.Entries.{code}
 use Rattle.word.specs.declared.faults.WordFault.TheVariants.{BadNumber}
 use Rattle.line.specs.declared.faults.LineFault.TheVariants.{BadShape, Word}
 use Rattle.text.specs.Pages.{Page}
 use Rattle.text.specs.declared.faults.TextFault.{TextFault}
 use Rattle.text.specs.declared.faults.TextFault.TheVariants.{Line}
-use Rattle.job.specs.Jobs.{Read, job_read}
+use Rattle.job.specs.Jobs.{job_read}
 
 abbrev pub empty_page : Page
 empty_page = record { motifs = []; rules = []; row = []; marks = [] }

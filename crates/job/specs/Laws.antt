@@ -1,8 +1,8 @@
 -- Laws of reading: where a job is refused, and what it leaves.
-use Rattle.std.specs.Prelude.{◌≡◌, ℕ, ◌-◌, ◌≤◌, List, [], ◌∷◌, ◌++◌, length, take, Some, None, Err, slice_index_or}
+use Rattle.std.specs.Prelude.{◌≡◌, ℕ, ◌-◌, ◌≤◌, List, [], ◌++◌, length, take, Some, None, Err, slice_index_or}
 use Rattle.text.specs.Pages.{Page}
 use Rattle.text.specs.declared.faults.TextFault.{TextFault}
-use Rattle.job.specs.Jobs.{Read, line_read, read_lines}
+use Rattle.job.specs.Jobs.{line_read, read_lines}
 
 -- `within`         the line n is one of the lines
 -- `before`         the lines before it are all taken, and their page is what is left

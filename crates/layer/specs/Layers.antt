@@ -1,5 +1,5 @@
 -- What the layers mean: two sources as one, and a window on a part of one.
-use Rattle.std.specs.Prelude.{ℕ, ◌+◌, ◌-◌, min, max, Bool, cond, ◌&&◌, ◌||◌, Some, None, Option, nat_le}
+use Rattle.std.specs.Prelude.{ℕ, ◌+◌, ◌-◌, min, max, cond, ◌&&◌, ◌||◌, Some, None, Option, nat_le}
 use Rattle.source.specs.Meaning.{Meaning, Price}
 
 -- `both M N`            M's length and stretches, and those of N that end within M's length

@@ -1,5 +1,5 @@
 -- A net that has its shape begins with a name.
-use Rattle.std.proofs.Common.{◌≡◌, ℕ, ◌+◌, ◌<◌, ◌≤◌, Bool, true, false, cond, eqb, List, [], ◌∷◌, length, Some, None, Ok, Err, Option, Result, sym, refl, ap, ◌∙◌, subst, arith}
+use Rattle.std.proofs.Common.{◌≡◌, ℕ, ◌+◌, ◌<◌, Bool, true, false, cond, eqb, List, [], ◌∷◌, length, Some, None, Ok, Err, Option, Result, sym, refl, ap, ◌∙◌, subst, arith}
 use Rattle.std.proofs.lemmas.Bool.{false≢true, ne_eqb}
 use Rattle.entry.specs.Rules.{Link}
 use Rattle.parts.specs.Parts.{before, parts}
@@ -11,7 +11,6 @@ use Rattle.shape.specs.declared.kinds.Kind.{Kind}
 use Rattle.shape.specs.declared.kinds.Kind.TheVariants.{Letter}
 use Rattle.shape.proofs.Same.{each_kind}
 use Rattle.net.specs.Tokens.{Tok, both, high_of, low_of, name, net_tokens, range, range_or, tokens}
-use Rattle.net.specs.declared.Bounds.{Bounds}
 use Rattle.word.specs.Numbers.{number_of}
 use Rattle.word.specs.declared.limits.Limits.TheVariants.{Shift}
 use Rattle.text.specs.Names.{number_in}

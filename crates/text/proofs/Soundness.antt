@@ -1,5 +1,5 @@
 -- What a line without fault says is sound.
-use Rattle.std.proofs.Common.{◌≡◌, ℕ, ◌+◌, ◌<◌, ◌≤◌, Bool, true, false, cond, not, eqb, leb, List, [], ◌∷◌, length, drop, ℤ, pos, Some, None, Option, sym, refl, ap, ◌∙◌, subst, arith}
+use Rattle.std.proofs.Common.{◌≡◌, ℕ, ◌+◌, ◌≤◌, Bool, true, false, cond, not, eqb, leb, List, [], ◌∷◌, length, drop, ℤ, pos, Some, None, Option, refl, arith}
 use Rattle.std.proofs.lemmas.Int.{ints}
 use Rattle.std.proofs.lemmas.List.{length-drop}
 use Rattle.refusal.specs.Checks.{refuse, refused_by}
@@ -7,9 +7,9 @@ use Rattle.entry.specs.Names.{is_name}
 use Rattle.parts.specs.Parts.{before, left, parts, tally}
 use Rattle.shape.specs.Follow.{misfit}
 use Rattle.shape.specs.Grammar.{shape_of}
-use Rattle.shape.specs.declared.Form.TheVariants.{Number, Codes, Body, Net}
-use Rattle.word.specs.Faults.{name_fault, raised}
-use Rattle.word.specs.Numbers.{counted, kept, number_of, place_of, written}
+use Rattle.shape.specs.declared.Form.TheVariants.{Number, Body, Net}
+use Rattle.word.specs.Faults.{raised}
+use Rattle.word.specs.Numbers.{counted, number_of, place_of, written}
 use Rattle.word.specs.declared.limits.Limits.TheVariants.{Code, Shift, Place}
 use Rattle.word.specs.declared.faults.WordFault.TheVariants.{BadName}
 use Rattle.word.proofs.Figures.{kept_bounds}
@@ -17,10 +17,9 @@ use Rattle.body.specs.Bodies.{body_of}
 use Rattle.net.specs.Tokens.{names_over, net_tokens}
 use Rattle.line.specs.Fields.{Placed, commas_of, fields, kind_in, placed}
 use Rattle.line.specs.Lines.{◌else◌, backward_range, bad_letters, bad_name, bad_number, bad_shape, fields_fault, in_word, kind_fault, line_fault, too_many_items, too_many_names}
-use Rattle.line.specs.Said.{Says, line_says, says_by}
+use Rattle.line.specs.Said.{line_says, says_by}
 use Rattle.line.specs.declared.kinds.Kind.{Kind}
 use Rattle.line.specs.declared.kinds.Kind.TheVariants.{Motif, Rule, Boxes, Mark}
-use Rattle.line.specs.declared.faults.LineFault.{LineFault}
 use Rattle.line.specs.declared.faults.LineFault.TheVariants.{BadShape, TooMany, WrongCommas}
 use Rattle.text.specs.Sound.{Sound}
 

@@ -1,5 +1,5 @@
 -- The faults of a text: the refusal, the layer and the place of each.
-use Rattle.std.specs.Prelude.{ℕ, Some, None, Option}
+use Rattle.std.specs.Prelude.{ℕ}
 use Rattle.refusal.specs.declared.Refusal.{Refusal}
 use Rattle.refusal.specs.declared.Refusal.TheVariants.{TooLong, NameTaken as ByTaken, UnknownMotif as ByUnknown, NoRoom as ByRoom}
 use Rattle.line.specs.Faults.{line_layer, line_place, line_refusal}

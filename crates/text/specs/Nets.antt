@@ -1,5 +1,5 @@
 -- A net whose names are looked up: the motif of each name, with the range that leads to it.
-use Rattle.std.specs.Prelude.{ℕ, cond, List, [], ◌∷◌, ◌++◌, length, pos, Some, None, Ok, Err, Option, Result}
+use Rattle.std.specs.Prelude.{ℕ, List, [], ◌∷◌, ◌++◌, pos, Some, None, Ok, Err, Option, Result}
 use Rattle.refusal.specs.declared.Refusal.{Refusal}
 use Rattle.entry.specs.Faults.{range_fault}
 use Rattle.entry.specs.Rules.{Link, Net}

@@ -1,5 +1,5 @@
 -- What is known of what a line without fault says.
-use Rattle.std.specs.Prelude.{◌≡◌, ℕ, ◌+◌, ◌≤◌, true, List, length, None}
+use Rattle.std.specs.Prelude.{◌≡◌, ℕ, ◌≤◌, true, List, length, None}
 use Rattle.refusal.specs.Checks.{refused_by}
 use Rattle.entry.specs.Names.{is_name}
 use Rattle.shape.specs.Follow.{misfit}

@@ -13,7 +13,7 @@ use Rattle.text.specs.Names.{number_in}
 use Rattle.text.specs.Nets.{net_in, steps_in}
 use Rattle.text.specs.Pages.{MotifEntry, Page, RuleEntry, motif_names_in, rule_names_in}
 use Rattle.text.specs.declared.faults.TextFault.{TextFault}
-use Rattle.text.specs.declared.faults.TextFault.TheVariants.{JobTooLong, LineTooLong, Line, NameTaken, UnknownMotif, NoRoom}
+use Rattle.text.specs.declared.faults.TextFault.TheVariants.{LineTooLong, Line, NameTaken, UnknownMotif, NoRoom}
 
 -- `unless_by test e r`   e where the test holds, else r
 abbrev pub unless_by : Bool → TextFault → Result Page TextFault → Result Page TextFault

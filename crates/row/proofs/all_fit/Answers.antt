@@ -1,4 +1,4 @@
-use Rattle.std.proofs.Common.{◌≡◌, true, false, get_or, sym, ap, ◌∙◌, arith}
+use Rattle.std.proofs.Common.{true, false, get_or, sym, ap, ◌∙◌, arith}
 use Rattle.entry.specs.Bodies.{fits}
 use Rattle.row.proofs.Fit.{fit_on, fit-end, fit-short}
 use Rattle.row.proofs.all_fit.Goals as goal

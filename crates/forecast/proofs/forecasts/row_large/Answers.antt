@@ -1,7 +1,7 @@
-use Rattle.std.proofs.Common.{◌≡◌, true, false, ltb, sym, arith}
+use Rattle.std.proofs.Common.{◌≡◌, false, ltb, sym, arith}
 use Rattle.std.proofs.lemmas.Bool.Decides.{nat_tests}
 use Rattle.forecast.specs.Runs.{number_at}
-use Rattle.forecast.proofs.Tests.{any_at, none_more, none_all}
+use Rattle.forecast.proofs.Tests.{none_more, none_all}
 use Rattle.forecast.proofs.forecasts.row_large.Goals as goal
 
 pub loop-j-preserved : goal.loop-j-preserved

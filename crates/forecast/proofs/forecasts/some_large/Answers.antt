@@ -1,4 +1,4 @@
-use Rattle.std.proofs.Common.{◌≡◌, true, false, sym, ◌∙◌, arith}
+use Rattle.std.proofs.Common.{sym, ◌∙◌, arith}
 use Rattle.forecast.specs.Forecasts.{is_row_large}
 use Rattle.forecast.specs.Runs.{number_at}
 use Rattle.forecast.proofs.Tests.{any_at, none_more, none_all}

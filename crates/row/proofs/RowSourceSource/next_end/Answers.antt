@@ -1,5 +1,4 @@
-use Rattle.std.proofs.Common.{◌≡◌, sym, refl, ◌∙◌, arith, false-eqb}
-use Rattle.std.proofs.lemmas.Bool.{eqb-false}
+use Rattle.std.proofs.Common.{sym, refl, arith, false-eqb}
 use Rattle.row.proofs.Fit.{placed, not_placed, ends_at}
 use Rattle.row.proofs.RowSourceSource.next_end.Goals as goal
 

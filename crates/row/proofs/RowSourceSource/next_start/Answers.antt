@@ -1,4 +1,4 @@
-use Rattle.std.proofs.Common.{◌≡◌, ℕ, ◌+◌, ◌-◌, true, length, sym, ◌∙◌, subst, ⊎_elim, arith, false-eqb}
+use Rattle.std.proofs.Common.{◌≡◌, ◌+◌, ◌-◌, true, length, sym, subst, ⊎_elim, arith, false-eqb}
 use Rattle.book.specs.Adding.{motifs_in}
 use Rattle.row.specs.Row.{items_from, stands}
 use Rattle.row.proofs.Fit.{placed, not_placed, ends_at}

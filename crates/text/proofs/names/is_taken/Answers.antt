@@ -1,4 +1,4 @@
-use Rattle.std.proofs.Common.{◌≡◌, map, is_some, ap, ◌∙◌}
+use Rattle.std.proofs.Common.{map, is_some, ap, ◌∙◌}
 use Rattle.text.proofs.Lookups.{numbered}
 use Rattle.text.proofs.names.is_taken.Goals as goal
 

@@ -1,4 +1,4 @@
-use Rattle.std.proofs.Common.{◌≡◌, ◌<◌, true, false, leb, length, Some, None, sym, refl, ap, ◌∙◌, subst}
+use Rattle.std.proofs.Common.{◌≡◌, ◌<◌, leb, length, Some, None, refl, ap, ◌∙◌, subst}
 use Rattle.book.specs.Adding.{mark_fault, marks_of, motifs_in}
 use Rattle.book.specs.Entries.{motif_names}
 use Rattle.text.specs.Names.{number_in}

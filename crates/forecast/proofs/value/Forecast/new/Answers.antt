@@ -1,4 +1,4 @@
-use Rattle.std.proofs.Common.{◌≡◌, sym, refl, ◌∙◌, arith}
+use Rattle.std.proofs.Common.{sym, ◌∙◌}
 use Rattle.forecast.specs.Runs.{number_at}
 use Rattle.forecast.proofs.Cells.{all_small, too_long}
 use Rattle.forecast.proofs.value.Forecast.new.Goals as goal

@@ -1,4 +1,4 @@
-use Rattle.std.proofs.Common.{◌≡◌, sym, ap, ◌∙◌}
+use Rattle.std.proofs.Common.{sym, ap, ◌∙◌}
 use Rattle.entry.specs.Bodies.{items}
 use Rattle.row.specs.Row.{items_from}
 use Rattle.row.proofs.Fit.{items_at, items_past}
