@@ -16,7 +16,7 @@ import re
 import sys
 
 WORD = "[A-Za-z0-9_'\u2080-\u2089\u2115\u2124-]"
-DEFINED = re.compile(r"^ *(?:(?:abbrev|unfoldable|ruleset) +)?(?:pub +)?(?:(?:record|data|abbrev) +)?(?:pub +)?([^\s(){}:,;.]+)(?: \([^:]*:[^)]*\)| \{[^:]*:[^}]*\})* : ", re.M)
+DEFINED = re.compile(r"^ *(?:(?:abbrev|unfoldable|ruleset) +)?(?:pub +)?(?:(?:record|data|abbrev) +)?(?:pub +)?([^\s(){}:,;.]+)(?: \([^:\n]*:[^)\n]*\)| \{[^:\n]*:[^}\n]*\})* : ", re.M)
 TYPED = re.compile(r"^ *(?:pub +)?(?:record|data) +([^\s(){}:,;.]+)", re.M)
 
 # Names whose plain respelling says something else, or stands already.

@@ -8,7 +8,7 @@ use Rattle.entry.specs.declared.mark.Mark.{Mark}
 use Rattle.source.specs.Meaning.{Fair, Lawful}
 use Rattle.mark.specs.declared.fault.MarkFault.TheVariants.{TooLong, Entry}
 use Rattle.mark.specs.Faults.{fault_from, fits, follows, mark_fault}
-use Rattle.mark.specs.Marks.{LawfulMark, any_mark, is_mark, markMeaning, markPrice}
+use Rattle.mark.specs.Marks.{LawfulMark, any_mark, is_mark, mark_meaning, mark_price}
 
 -- where checks come to no refusal, the first lets through, and so do those after it
 let_through : {E : Type 0} (t : Bool) (e : E) (rest : Option E) → is_some (refuse t e rest) ≡ false → (t ≡ false) × (is_some rest ≡ false)
@@ -37,7 +37,7 @@ any-lawful n p e (m ∷ ms) none k a b h =
     (any-lawful n (Some m) (e + 1) ms t.1 k a b)
     (or_cases (is_mark m k a b) (any_mark ms k a b) h)
 
-pub mark-lawful : (n : ℕ) (ms : List Mark) → is_some (mark_fault n ms) ≡ false → Lawful (markMeaning n ms)
+pub mark-lawful : (n : ℕ) (ms : List Mark) → is_some (mark_fault n ms) ≡ false → Lawful (mark_meaning n ms)
 mark-lawful n ms none =
     let t = let_through (nat_lt 20000 n) TooLong (fault_from n None 0 ms) none in
     record {
@@ -47,5 +47,5 @@ mark-lawful n ms none =
       inside = λ k a b h. (any-lawful n None 0 ms t.1 k a b h).inside;
     }
 
-pub mark_fair : Fair markPrice
+pub mark_fair : Fair mark_price
 mark_fair = record { some = omega arith; look_bound = omega arith; opening_bound = omega arith }

@@ -12,12 +12,12 @@ any_mark [] k a b = false
 any_mark (m ∷ ms) k a b = is_mark m k a b || any_mark ms k a b
 
 -- the stretches are the marks
-abbrev pub markMeaning : ℕ → List Mark → Meaning
-markMeaning n ms = record { boxes = n; has = λ k a b. any_mark ms k a b }
+abbrev pub mark_meaning : ℕ → List Mark → Meaning
+mark_meaning n ms = record { boxes = n; has = λ k a b. any_mark ms k a b }
 
 -- the same for every motif
-abbrev pub markPrice : Price
-markPrice = record { look = 1; opening = 2 }
+abbrev pub mark_price : Price
+mark_price = record { look = 1; opening = 2 }
 
 -- a mark that may stand in a source of n boxes
 pub record LawfulMark (n : ℕ) (m : Mark) : Type 0 where

@@ -2,7 +2,7 @@
 ghost use Rattle.std.specs.Prelude.{◌≡◌};
 ghost use Rattle.mark.specs.Lawful.{mark_fair, mark-lawful};
 ghost use Rattle.mark.specs.Listed.{listed};
-ghost use Rattle.mark.specs.Marks.{markMeaning, markPrice};
+ghost use Rattle.mark.specs.Marks.{mark_meaning, mark_price};
 ghost use Rattle.mark.specs.Opened.{opened_meaning};
 
 use crate::key::{Key, least_wanted};
@@ -16,7 +16,7 @@ pub struct MarkSource {
 
 impl MarkTest {
     pub fn open(self) -> MarkSource
-        ensures { opened_meaning result ≡ markMeaning self.length (listed self.list) }
+        ensures { opened_meaning result ≡ mark_meaning self.length (listed self.list) }
     {
         MarkSource { tested: self }
     }
@@ -55,7 +55,7 @@ impl Source for MarkSource {
 }
 
 impl PricedSource for MarkSource {
-    ghost price = { λ _ _. markPrice };
+    ghost price = { λ _ _. mark_price };
 
     ghost fair = { λ _ _. mark_fair };
 

@@ -1,4 +1,4 @@
-use Rattle.std.proofs.Common.{◌≡◌, map, vec_items, sym, refl, ap, ◌∙◌, ap₂, arith, rules}
+use Rattle.std.proofs.Common.{map, vec_items, sym, ap, ◌∙◌, arith}
 use Rattle.strip.specs.Finds.{grown_list}
 use Rattle.strip.specs.Finds.{stretch_of}
 use Rattle.strip.proofs.Strips.{map_push}

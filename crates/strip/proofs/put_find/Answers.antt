@@ -1,4 +1,4 @@
-use Rattle.std.proofs.Common.{◌≡◌, ◌*◌, length, sym, refl, ap, ◌∙◌, ap₂, arith, rules}
+use Rattle.std.proofs.Common.{◌*◌, length, refl, ◌∙◌, arith}
 use Rattle.strip.proofs.Strips.{put_all}
 use Rattle.strip.proofs.put_find.Goals as goal
 
