@@ -1,12 +1,12 @@
 -- The fields of a line, one by one.
-use Rattle.std.proofs.Common.{◌≡◌, ℕ, ◌+◌, ◌<◌, ◌≤◌, Bool, true, false, cond, eqb, leb, ◌⊎◌, List, [], ◌∷◌, length, drop, Some, None, Option, sym, refl, ap, ◌∙◌, inl, inr, arith}
+use Rattle.std.proofs.Common.{◌≡◌, ℕ, ◌+◌, ◌<◌, ◌≤◌, Bool, true, false, cond, eqb, List, [], ◌∷◌, length, Some, None, sym, refl, ap, ◌∙◌, inl, inr, arith}
 use Rattle.std.proofs.lemmas.List.Edits.{length-between}
 use Rattle.std.proofs.lemmas.Bool.{cases_lt, eqb-true, le-leb}
 use Rattle.std.specs.List.{between}
 use Rattle.parts.specs.Parts.{Part, left, parts, tally}
 use Rattle.parts.proofs.Cuts.{left_cut, left-none}
 use Rattle.parts.proofs.Tallies.{length-parts}
-use Rattle.line.specs.Fields.{Placed, commas_of, fields, kind_in, letter_kind, placed}
+use Rattle.line.specs.Fields.{Placed, commas_of, kind_in, letter_kind, placed}
 use Rattle.line.specs.Said.{mark, motif, rule}
 use Rattle.line.specs.declared.kinds.Kind.{Kind}
 

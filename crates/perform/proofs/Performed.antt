@@ -1,5 +1,5 @@
 -- How the list stands after its first turns, and that one turn more keeps it so.
-use Rattle.std.proofs.Common.{◌≡◌, ℕ, ◌+◌, ◌<◌, ◌≤◌, List, [], ◌∷◌, ◌++◌, map, length, get_or, take, drop, set, Some, Option, sym, refl, ap, ◌∙◌, subst, ap₂, arith, length-set}
+use Rattle.std.proofs.Common.{◌≡◌, ℕ, ◌+◌, ◌<◌, ◌≤◌, List, [], ◌∷◌, ◌++◌, map, length, get_or, take, drop, set, Some, sym, refl, ap, ◌∙◌, subst, ap₂, arith, length-set}
 use Rattle.std.proofs.lemmas.List.{get_or-drop, take_all, take_more, take_more_set, drop-drop, drop-set-lt, map_push}
 use Rattle.source.specs.Meaning.{Priced, Lawful, plain}
 use Rattle.sheet_model.specs.Sheet.{Sheet, Call, Reply, clean, answer, answers, after, bill_of}

@@ -1,5 +1,5 @@
 -- The reply to a call, and the sheet after it, from what the sheet's own contract tells.
-use Rattle.std.proofs.Common.{◌≡◌, Some, Option, sym, refl, ap, ◌∙◌}
+use Rattle.std.proofs.Common.{◌≡◌, Some, sym, ap, ◌∙◌}
 use Rattle.source.specs.Meaning.{Priced}
 use Rattle.sheet_model.specs.Sheet.{Sheet, Call, Reply, answer}
 

@@ -1,4 +1,6 @@
 // Any list of calls made on a sheet in turn, with the whole theorem on one contract.
+#![tactic(auto)]
+
 mod performs;
 pub mod values;
 

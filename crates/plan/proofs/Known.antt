@@ -1,5 +1,5 @@
 -- The motifs of a rule of a book are in the book.
-use Rattle.std.proofs.Common.{◌≡◌, ℕ, zero, suc, ◌+◌, ◌-◌, ◌<◌, ◌≤◌, Bool, true, false, ◌&&◌, ltb, List, [], ◌∷◌, map, length, get_or, Some, None, vec_len, Option, sym, refl, ap, ◌∙◌, subst, true≢false, arith}
+use Rattle.std.proofs.Common.{◌≡◌, ℕ, zero, suc, ◌-◌, ◌<◌, ◌≤◌, Bool, true, false, ◌&&◌, ltb, List, [], ◌∷◌, map, length, get_or, Some, vec_len, sym, refl, subst, true≢false, arith}
 use Rattle.std.proofs.lemmas.Bool.Decides.{nat_tests}
 use Rattle.entry.specs.Lists.{every}
 use Rattle.entry.specs.Rules.{Net, motifs_of, net_of}
@@ -11,7 +11,6 @@ use Rattle.book.specs.declared.values.book.Book.{Book}
 use Rattle.rules.specs.Nets.{nets_in}
 use Rattle.rules.proofs.Numbers.{rule-motif, rule-motifs}
 use Rattle.walk.specs.Asked.{rule_numbered}
-use Rattle.walk.specs.Numbered.{motif}
 use Rattle.plan.specs.Weighed.{Known}
 
 and_left : (a b : Bool) → (a && b) ≡ true → a ≡ true

@@ -1,8 +1,8 @@
 -- Terms that say the same of a rule price and plan alike.
-use Rattle.std.proofs.Common.{◌≡◌, ℕ, ◌+◌, ◌-◌, ◌*◌, ◌<◌, ◌≤◌, ◌⊎◌, List, [], ◌∷◌, sym, refl, ap, ◌∙◌, ap₂, inl, inr, arith}
+use Rattle.std.proofs.Common.{◌≡◌, ℕ, ◌+◌, ◌-◌, ◌*◌, ◌≤◌, ◌⊎◌, List, [], ◌∷◌, sym, refl, ◌∙◌, ap₂, inl, inr, arith}
 use Rattle.walk.specs.declared.letter.Letter.{Letter}
 use Rattle.walk.specs.declared.letter.Letter.TheVariants.{L, R}
-use Rattle.planner.specs.Orders.{Terms, Completes, Before, IsPlanned, taking, price_of_letter, price_of_letters, price}
+use Rattle.planner.specs.Orders.{Terms, Completes, Before, IsPlanned, taking, price_of_letters, price}
 use Rattle.planner.specs.Laws.{Agree, SamePrices, SamePlan}
 
 module _ (t u : Terms) (same : Agree t u) where

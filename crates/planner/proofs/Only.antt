@@ -1,8 +1,8 @@
 -- Of two orders that each come before every other, neither is another.
-use Rattle.std.proofs.Common.{◌≡◌, ℕ, ◌<◌, ◌⊎◌, List, [], ◌∷◌, sym, refl, ◌∙◌, ap₂, inl, inr, arith}
+use Rattle.std.proofs.Common.{◌≡◌, ℕ, ◌⊎◌, List, [], ◌∷◌, sym, ◌∙◌, ap₂, inl, inr, arith}
 use Rattle.walk.specs.declared.letter.Letter.{Letter}
 use Rattle.walk.specs.declared.letter.Letter.TheVariants.{L, R}
-use Rattle.planner.specs.Orders.{Terms, Before, Earlier, IsPlanned, price}
+use Rattle.planner.specs.Orders.{Terms, Before, Earlier, price}
 use Rattle.planner.specs.Laws.{OnlyOne}
 
 never_both : (ls ms : List Letter) → Earlier ls ms → Earlier ms ls → ⊥

@@ -1,5 +1,5 @@
 -- The planner's table: a write leaves what is known elsewhere, and what is known where it was made.
-use Rattle.std.proofs.Common.{◌≡◌, ℕ, ◌+◌, ◌-◌, ◌*◌, ◌<◌, ◌≤◌, Bool, true, false, cond, ◌&&◌, eqb, leb, ◌⊎◌, List, [], sym, refl, ap, ◌∙◌, subst, inl, inr, ⊎_elim, arith}
+use Rattle.std.proofs.Common.{◌≡◌, ℕ, ◌+◌, ◌-◌, ◌*◌, ◌<◌, ◌≤◌, Bool, true, false, cond, ◌&&◌, eqb, [], sym, refl, ◌∙◌, subst, ⊎_elim, arith}
 use Rattle.std.proofs.lemmas.Bool.{cases_lt}
 use Rattle.std.proofs.lemmas.Bool.Decides.{nat_tests}
 use Rattle.forecast.specs.declared.runs.Runs.{Runs}
@@ -7,7 +7,7 @@ use Rattle.forecast.specs.Runs.{Put, is_run, number_at}
 use Rattle.walk.specs.declared.letter.Letter.{Letter}
 use Rattle.walk.specs.declared.letter.Letter.TheVariants.{L, R}
 use Rattle.planner.specs.Orders.{Terms}
-use Rattle.planner.specs.Best.{Least, Leads, Known, Rows, Row, Filled, most}
+use Rattle.planner.specs.Best.{Least, Leads, Known, Rows, Row, most}
 use Rattle.planner.proofs.Best.{least_L, least_R, whole}
 
 module _ (t : Terms) (costs : ℕ → ℕ → ℕ) (i j : ℕ) where

@@ -1,5 +1,5 @@
 -- Along the letters of an order.
-use Rattle.std.proofs.Common.{◌≡◌, ℕ, suc, ◌+◌, ◌-◌, ◌*◌, ◌<◌, ◌≤◌, List, [], ◌∷◌, sym, refl, ap, ◌∙◌, subst, arith}
+use Rattle.std.proofs.Common.{◌≡◌, ℕ, ◌+◌, ◌-◌, ◌≤◌, List, ◌∷◌, sym, ap, ◌∙◌, subst, arith}
 use Rattle.walk.specs.declared.letter.Letter.{Letter}
 use Rattle.walk.specs.declared.letter.Letter.TheVariants.{L, R}
 use Rattle.planner.specs.Orders.{Terms, Completes, price_of_letter}

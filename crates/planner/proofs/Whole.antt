@@ -1,8 +1,8 @@
 -- The first best seed, followed by the best letters, is the planned order.
-use Rattle.std.proofs.Common.{◌≡◌, ℕ, ◌+◌, ◌-◌, ◌*◌, ◌<◌, ◌≤◌, ◌⊎◌, List, sym, refl, ap, subst, inl, inr, ⊎_elim, eq-or-lt_of_le, arith}
+use Rattle.std.proofs.Common.{◌≡◌, ℕ, ◌+◌, ◌<◌, ◌≤◌, ◌⊎◌, List, sym, ap, subst, inl, inr, ⊎_elim, eq-or-lt_of_le, arith}
 use Rattle.std.proofs.lemmas.Bool.{cases_order}
 use Rattle.walk.specs.declared.letter.Letter.{Letter}
-use Rattle.planner.specs.Orders.{Terms, Completes, Before, IsPlanned, price, price_of_letters}
+use Rattle.planner.specs.Orders.{Terms, Completes, Before, IsPlanned, price}
 use Rattle.planner.specs.Best.{Best, Better, Filled, Chosen, start}
 use Rattle.planner.proofs.Best.{least, same-price}
 

@@ -1,4 +1,4 @@
-use Rattle.std.proofs.Common.{◌-◌, ◌≤◌}
+use Rattle.std.proofs.Common.{◌-◌}
 use Rattle.placements.proofs.write_stretches.Given as goal
 
 abbrev pub decreases-loop-end : goal.decreases-loop-end

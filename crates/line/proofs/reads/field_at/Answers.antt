@@ -1,4 +1,3 @@
-use Rattle.std.proofs.Common.{arith}
 use Rattle.parts.specs.Parts.{Part}
 use Rattle.line.proofs.Splits.{cut, fewer, within}
 use Rattle.line.proofs.reads.field_at.Goals as goal

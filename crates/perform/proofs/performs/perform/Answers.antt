@@ -1,4 +1,4 @@
-use Rattle.std.proofs.Common.{◌≡◌, ◌+◌, length, get_or, set, Some, sym, refl, ap, ◌∙◌, subst, arith, rules}
+use Rattle.std.proofs.Common.{◌≡◌, ◌+◌, get_or, Some, sym, refl, ◌∙◌, subst, rules}
 use Rattle.std.proofs.lemmas.List.{set-set}
 use Rattle.source.specs.Meaning.{priced}
 use Rattle.sheet_model.specs.Sheet.{answer}

@@ -1,10 +1,9 @@
-use Rattle.std.proofs.Common.{◌≡◌, ℕ, ◌+◌, ◌-◌, ◌<◌, ◌≤◌, length, get_or, sym, ap, ◌∙◌, subst, arith, length-set}
+use Rattle.std.proofs.Common.{◌≡◌, ◌+◌, ◌-◌, ◌<◌, ◌≤◌, length, get_or, ap, ◌∙◌, subst, arith, length-set}
 use Rattle.entry.specs.Rules.{motifs_of, net_of}
 use Rattle.entry.proofs.Lengths.{motifs-length}
 use Rattle.rules.proofs.Numbers.{rule-motif}
 use Rattle.walk.specs.Numbered.{motif}
 use Rattle.planner.specs.declared.tariff.Charge.{Charge}
-use Rattle.plan.specs.Charges.{Charged}
 use Rattle.plan.proofs.Filling.{filled}
 use Rattle.plan.proofs.tariffs.charges_of.Goals as goal
 

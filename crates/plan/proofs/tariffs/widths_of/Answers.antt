@@ -1,5 +1,5 @@
-use Rattle.std.proofs.Common.{◌≡◌, ℕ, ◌+◌, ◌-◌, ◌<◌, ◌≤◌, length, get_or, sym, ap, ◌∙◌, subst, arith, length-set}
-use Rattle.entry.specs.Rules.{Span, net_of, ranges_of, span_of, width}
+use Rattle.std.proofs.Common.{◌≡◌, ◌+◌, ◌-◌, ◌<◌, ◌≤◌, length, get_or, ap, ◌∙◌, subst, arith, length-set}
+use Rattle.entry.specs.Rules.{net_of, ranges_of, span_of, width}
 use Rattle.entry.proofs.Lengths.{ranges_length}
 use Rattle.rules.proofs.Numbers.{rule-range}
 use Rattle.walk.specs.Numbered.{range}

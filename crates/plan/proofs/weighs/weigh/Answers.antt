@@ -1,9 +1,8 @@
 use Rattle.std.proofs.Common.{subst}
 use Rattle.entry.specs.Rules.{net_of}
-use Rattle.refusal.specs.Checks.{refused_by}
 use Rattle.rules.specs.Nets.{nets_in}
 use Rattle.walk.specs.Asked.{rule_numbered}
-use Rattle.plan.specs.Weighed.{Weighed, weigh_fault, weight_in}
+use Rattle.plan.specs.Weighed.{weight_in}
 use Rattle.plan.proofs.Answered.{WeighAnswer, too_many, weighed_ok}
 use Rattle.plan.proofs.Known.{known_in}
 use Rattle.plan.proofs.weighs.weigh.Goals as goal

@@ -1,5 +1,4 @@
-use Rattle.std.proofs.Common.{◌≡◌, ℕ, ◌+◌, ◌-◌, ◌*◌, ◌/◌, ◌<◌, ◌≤◌, List, length, get_or, sym, ap, ◌∙◌, subst, ap₂, mul-le-mul, arith}
-use Rattle.entry.specs.declared.range.Range.{Range}
+use Rattle.std.proofs.Common.{◌≡◌, ◌+◌, ◌-◌, ◌*◌, ◌/◌, ◌<◌, ◌≤◌, length, get_or, sym, ap, ◌∙◌, subst, ap₂, mul-le-mul, arith}
 use Rattle.entry.specs.Rules.{net_of, ranges_of, span_of, width}
 use Rattle.rules.proofs.Numbers.{rule-motif, rule-motifs, rule-range}
 use Rattle.walk.specs.Numbered.{motif, range}

@@ -1,9 +1,9 @@
-use Rattle.std.proofs.Common.{◌≡◌, ℕ, ◌+◌, ◌-◌, ◌<◌, ◌≤◌, length, sym, refl, ap, ◌∙◌, subst, arith}
+use Rattle.std.proofs.Common.{◌≡◌, ℕ, ◌+◌, ◌-◌, ◌<◌, ◌≤◌, length, refl, ap, subst, arith}
 use Rattle.entry.specs.Rules.{net_of}
 use Rattle.entry.proofs.Lengths.{motifs-length}
 use Rattle.rules.proofs.Numbers.{rule-motifs}
 use Rattle.forecast.specs.Runs.{number_at, Put}
-use Rattle.plan.specs.Weighed.{Begun, weighed, weight_in}
+use Rattle.plan.specs.Weighed.{weighed, weight_in}
 use Rattle.plan.proofs.Weighing.{large, no_run}
 use Rattle.plan.proofs.Tables.{begun, done_at, more, next, all}
 use Rattle.plan.proofs.weighs.weigh_runs.Goals as goal

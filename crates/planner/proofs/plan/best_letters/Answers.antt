@@ -1,4 +1,4 @@
-use Rattle.std.proofs.Common.{◌≡◌, ℕ, ◌+◌, ◌-◌, ◌<◌, ◌≤◌, List, [], ◌∷◌, ◌++◌, sym, ◌∙◌, subst, append-nil, arith}
+use Rattle.std.proofs.Common.{◌+◌, ◌≤◌, [], sym, subst, append-nil, arith}
 use Rattle.planner.specs.Terms.{terms_of}
 use Rattle.planner.specs.Best.{Best, Leads}
 use Rattle.planner.proofs.Best.{whole, onward_L, onward_R}

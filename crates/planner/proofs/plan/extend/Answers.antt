@@ -1,4 +1,4 @@
-use Rattle.std.proofs.Common.{◌≡◌, ℕ, ◌+◌, ◌*◌, ◌<◌, ◌≤◌, arith}
+use Rattle.std.proofs.Common.{◌+◌, ◌≤◌, arith}
 use Rattle.planner.specs.Terms.{terms_of}
 use Rattle.planner.proofs.Best.{only_L, only_R, both_L, both_R}
 use Rattle.planner.proofs.plan.extend.Goals as goal

@@ -1,4 +1,4 @@
-use Rattle.std.proofs.Common.{◌≡◌, ℕ, ◌+◌, ◌-◌, ◌*◌, ◌<◌, ◌≤◌, sym, ◌∙◌, subst, arith}
+use Rattle.std.proofs.Common.{◌+◌, ◌-◌, ◌*◌, ◌≤◌, sym, subst, arith}
 use Rattle.forecast.specs.Runs.{number_at}
 use Rattle.planner.specs.Terms.{terms_of}
 use Rattle.planner.specs.Best.{Least, Rows, Row, most}

@@ -1,4 +1,4 @@
-use Rattle.std.proofs.Common.{◌≡◌, ℕ, ◌*◌, ◌≤◌, ap, mul-le-mul, arith}
+use Rattle.std.proofs.Common.{◌≤◌, ap, mul-le-mul, arith}
 use Rattle.planner.specs.Orders.{price_of_letter}
 use Rattle.planner.specs.Terms.{terms_of}
 use Rattle.planner.proofs.price.letter_price.Goals as goal

@@ -1,10 +1,8 @@
-use Rattle.std.proofs.Common.{◌≡◌, ℕ, ◌+◌, ◌-◌, ◌<◌, ◌≤◌, List, [], ◌∷◌, get_or, drop, sym, refl, ap, ◌∙◌, subst, arith}
+use Rattle.std.proofs.Common.{◌+◌, get_or, drop, ap, subst, arith}
 use Rattle.std.proofs.lemmas.List.{drop_more, drop_all}
-use Rattle.walk.specs.declared.letter.Letter.{Letter}
-use Rattle.walk.specs.declared.letter.Letter.TheVariants.{L, R}
+use Rattle.walk.specs.declared.letter.Letter.TheVariants.{L}
 use Rattle.planner.specs.Orders.{Completes, price_of_letters}
 use Rattle.planner.specs.Terms.{terms_of}
-use Rattle.planner.specs.Best.{Walked, Can}
 use Rattle.planner.proofs.Walked.{can, walked_L, walked_R}
 use Rattle.planner.proofs.price.letters_price.Goals as goal
 use Rattle.planner.proofs.price.letters_price.Goals.{in-L, in-R}

@@ -1,4 +1,4 @@
-use Rattle.std.proofs.Common.{◌≡◌, ◌-◌, ◌<◌, ◌≤◌, map, length, get_or, sym, ap, ◌∙◌, arith, rules}
+use Rattle.std.proofs.Common.{◌-◌, ◌<◌, length, sym, ap, arith, rules}
 use Rattle.std.proofs.lemmas.List.{get_or-map}
 use Rattle.planner.specs.declared.tariff.Charge.{Charge}
 use Rattle.planner.proofs.price.look_price.Goals as goal

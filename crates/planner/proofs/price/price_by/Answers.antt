@@ -1,4 +1,4 @@
-use Rattle.std.proofs.Common.{◌≡◌, sym, ◌∙◌, true≢false, arith}
+use Rattle.std.proofs.Common.{sym, ◌∙◌, true≢false, arith}
 use Rattle.planner.proofs.price.price_by.Goals as goal
 
 pub returns-then-not-is_order : goal.returns-then-not-is_order

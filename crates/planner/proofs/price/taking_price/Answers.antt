@@ -1,4 +1,4 @@
-use Rattle.std.proofs.Common.{◌≡◌, ℕ, ◌+◌, ◌-◌, ◌*◌, ◌<◌, ◌≤◌, map, length, get_or, sym, ap, ◌∙◌, mul-le-mul, arith, rules}
+use Rattle.std.proofs.Common.{◌-◌, ◌<◌, ◌≤◌, length, get_or, ap, mul-le-mul, arith, rules}
 use Rattle.std.proofs.lemmas.List.{get_or-map}
 use Rattle.planner.specs.declared.tariff.Charge.{Charge}
 use Rattle.planner.specs.declared.tariff.Width.{Width}
