@@ -17,7 +17,7 @@ use Rattle.round_trip.specs.Chapters.{boxes_lines, chapter_lines, chapter_text, 
 use Rattle.round_trip.specs.Laws.{LawfulMark, LawfulPage, ReadBack, Short}
 use Rattle.round_trip.proofs.Names.{all_parts}
 use Rattle.round_trip.proofs.Pieces.{Piece, pieces-lawful}
-use Rattle.round_trip.proofs.Taken.{boxes_lead, marks_lead, motif_names_lem, motifs_lead, of_names, page, rules_lead}
+use Rattle.round_trip.proofs.Taken.{boxes_lead, marks_lead, lawful_names, motifs_lead, of_names, page, rules_lead}
 use Rattle.round_trip.proofs.Turns.{Leads, both_lead}
 
 piece_whole : (x : List ℕ) → Piece x → Whole (boxes_line x)
@@ -29,13 +29,13 @@ module _ (p : Page) (l : LawfulPage p) where
   mark-line m h =
       let names = motif_names_in p in
       let k : m.motif < length names = of_names p (λ n. m.motif < n) h.known in
-      mark_whole (get_or names m.motif []) m.start m.end (All-get_or (λ n. is_name n ≡ true) names m.motif [] k (motif_names_lem p l).named) h.starts h.ends
+      mark_whole (get_or names m.motif []) m.start m.end (All-get_or (λ n. is_name n ≡ true) names m.motif [] k (lawful_names p l).named) h.starts h.ends
 
   all_whole : AllByRecursion Whole (chapter_lines p)
   all_whole =
       let names = motif_names_in p in
       let motifs = All-map Whole motif_line p.motifs (All-weaker LawfulMotif (λ m. Whole (motif_line m)) motif_whole p.motifs l.motifs) in
-      let rules = All-map Whole (rule_line names) p.rules (All-weaker (LawfulRule (length p.motifs)) (λ r. Whole (rule_line names r)) (λ r h. rule_whole names r (motif_names_lem p l) (of_names p (λ n. LawfulRule n r) h)) p.rules l.rules) in
+      let rules = All-map Whole (rule_line names) p.rules (All-weaker (LawfulRule (length p.motifs)) (λ r. Whole (rule_line names r)) (λ r h. rule_whole names r (lawful_names p l) (of_names p (λ n. LawfulRule n r) h)) p.rules l.rules) in
       let boxes = All-map Whole boxes_line (pieces p.row) (All-weaker Piece (λ x. Whole (boxes_line x)) piece_whole (pieces p.row) (pieces-lawful p.row l.row)) in
       let marks = All-map Whole (mark_of names) p.marks (All-weaker (LawfulMark (length p.motifs)) (λ m. Whole (mark_of names m)) mark-line p.marks l.marks) in
       All-append Whole (motif_lines p) (rule_lines p ++ (boxes_lines p ++ mark_lines p)) motifs (All-append Whole (rule_lines p) (boxes_lines p ++ mark_lines p) rules (All-append Whole (boxes_lines p) (mark_lines p) boxes marks))

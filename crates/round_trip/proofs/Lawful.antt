@@ -104,10 +104,10 @@ chapter_lawful c ms cs =
     let few : vec_len c.marks ≤ 4000 = c.few in
     record {
       motifs = ms;
-      motif_names_lem = ap distinct (map-map (λ m. m.name) motif_entry (motifs_in b)) ∙ b.motifnames;
+      motifs_apart = ap distinct (map-map (λ m. m.name) motif_entry (motifs_in b)) ∙ b.motifnames;
       few_motifs = omega arith;
       rules = subst (λ n. AllByRecursion (LawfulRule n) (map rule_entry (rules_in b))) (sym motifs) (by_test (known count) (LawfulRule count) rule_entry (rule-lawful count) (rules_in b) b.known);
-      rule_names_lem = ap distinct (map-map (λ r. r.name) rule_entry (rules_in b)) ∙ b.rulenames;
+      rules_apart = ap distinct (map-map (λ r. r.name) rule_entry (rules_in b)) ∙ b.rulenames;
       few_rules = omega arith;
       row = cs;
       few_boxes = omega (arith, c.row.ok.0);

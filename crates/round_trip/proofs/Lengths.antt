@@ -12,7 +12,7 @@ use Rattle.writing.specs.Lines.{Codes, boxes_line, codes_field, mark_line}
 use Rattle.writing.specs.Numerals.{word_of, words_of}
 use Rattle.round_trip.specs.Chapters.{boxes_lines, cut, mark_lines, mark_of, pieces}
 use Rattle.round_trip.specs.Laws.{LawfulMark, LawfulPage, Short}
-use Rattle.round_trip.proofs.Taken.{motif_names_lem, of_names}
+use Rattle.round_trip.proofs.Taken.{lawful_names, of_names}
 
 word-short : (n : ℕ) → n ≤ 65535 → length (word_of (pos n)) ≤ 5
 word-short n h = length-decimal-le 5 n (omega arith) (omega arith) (omega arith)
@@ -53,4 +53,4 @@ marks_short p l =
     let names = motif_names_in p in
     All-map Short (mark_of names) p.marks (All-weaker (LawfulMark (length p.motifs)) (λ m. Short (mark_of names m)) (λ m h.
     let k : m.motif < length names = of_names p (λ n. m.motif < n) h.known in
-    mark-fits (get_or names m.motif []) m.start m.end (All-get_or (λ n. is_name n ≡ true) names m.motif [] k (motif_names_lem p l).named) h.starts h.ends) p.marks l.marks)
+    mark-fits (get_or names m.motif []) m.start m.end (All-get_or (λ n. is_name n ≡ true) names m.motif [] k (lawful_names p l).named) h.starts h.ends) p.marks l.marks)

@@ -23,10 +23,10 @@ use Rattle.round_trip.proofs.Turns.{Leads, in_turn}
 abbrev pub page : List MotifEntry → List RuleEntry → List ℕ → List Mark → Page
 page ms rs cs ks = record { motifs = ms; rules = rs; row = cs; marks = ks }
 
-pub motif_names_lem : (p : Page) → LawfulPage p → LawfulNames (motif_names_in p)
-motif_names_lem p l = record {
+pub lawful_names : (p : Page) → LawfulPage p → LawfulNames (motif_names_in p)
+lawful_names p l = record {
   named = All-map (λ n. is_name n ≡ true) (λ m. m.name) p.motifs (All-weaker LawfulMotif (λ m. is_name m.name ≡ true) (λ m h. h.named) p.motifs l.motifs);
-  apart = l.motif_names_lem;
+  apart = l.motifs_apart;
 }
 
 -- the number of names is that of motifs
@@ -38,16 +38,16 @@ module _ (p : Page) (l : LawfulPage p) where
   motifs_lead a = in_turn (λ ms. page ms [] [] []) motif_line p.motifs (λ done m rest e.
       motif_taken m (holds p.motifs done m rest e LawfulMotif l.motifs) (page done [] [] [])
       (holds p.motifs done m rest e (λ x. Short (motif_line x)) (all_unmap Short motif_line p.motifs a))
-      (free p.motifs done m rest e (λ x. x.name) l.motif_names_lem)
+      (free p.motifs done m rest e (λ x. x.name) l.motifs_apart)
       (omega (arith, fewer p.motifs done m rest e, l.few_motifs)))
 
   pub rules_lead : AllByRecursion Short (rule_lines p) → Leads (page p.motifs [] [] []) (rule_lines p) (page p.motifs p.rules [] [])
   rules_lead a =
       let line = rule_line (motif_names_in p) in
       in_turn (λ rs. page p.motifs rs [] []) line p.rules (λ done r rest e.
-      rule_taken (page p.motifs done [] []) r (motif_names_lem p l) (of_names p (λ n. LawfulRule n r) (holds p.rules done r rest e (LawfulRule (length p.motifs)) l.rules))
+      rule_taken (page p.motifs done [] []) r (lawful_names p l) (of_names p (λ n. LawfulRule n r) (holds p.rules done r rest e (LawfulRule (length p.motifs)) l.rules))
       (holds p.rules done r rest e (λ x. Short (line x)) (all_unmap Short line p.rules a))
-      (free p.rules done r rest e (λ x. x.name) l.rule_names_lem)
+      (free p.rules done r rest e (λ x. x.name) l.rules_apart)
       (omega (arith, fewer p.rules done r rest e, l.few_rules)))
 
   piece_taken : (cs x : List ℕ) → Piece x → Short (boxes_line x) → length cs + length x ≤ 20000 → line_read (page p.motifs p.rules cs []) (boxes_line x) ≡ Ok (page p.motifs p.rules (cs ++ x) [])
@@ -69,7 +69,7 @@ module _ (p : Page) (l : LawfulPage p) where
       in_turn (λ ks. page p.motifs p.rules p.row ks) (mark_of names) p.marks (λ done m rest e.
       let h = holds p.marks done m rest e (LawfulMark (length p.motifs)) l.marks in
       let k : m.motif < length names = of_names p (λ n. m.motif < n) h.known in
-      mark_taken (get_or names m.motif []) m.start m.end (All-get_or (λ n. is_name n ≡ true) names m.motif [] k (motif_names_lem p l).named) h.starts h.ends (page p.motifs p.rules p.row done) m.motif
+      mark_taken (get_or names m.motif []) m.start m.end (All-get_or (λ n. is_name n ≡ true) names m.motif [] k (lawful_names p l).named) h.starts h.ends (page p.motifs p.rules p.row done) m.motif
       (holds p.marks done m rest e (λ x. Short (mark_of names x)) (all_unmap Short (mark_of names) p.marks a))
-      (number_of names l.motif_names_lem m.motif k)
+      (number_of names l.motifs_apart m.motif k)
       (omega (arith, fewer p.marks done m rest e, l.few_marks)))

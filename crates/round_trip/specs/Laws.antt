@@ -20,10 +20,10 @@ pub record LawfulMark (count : ℕ) (m : Mark) : Type 0 where
 -- entries are lawful, names unique in their kind, and of each kind there are not too many
 pub record LawfulPage (p : Page) : Type 0 where
   pub motifs : AllByRecursion LawfulMotif p.motifs
-  pub motif_names_lem : distinct (motif_names_in p) ≡ true
+  pub motifs_apart : distinct (motif_names_in p) ≡ true
   pub few_motifs : length p.motifs ≤ 16
   pub rules : AllByRecursion (LawfulRule (length p.motifs)) p.rules
-  pub rule_names_lem : distinct (rule_names_in p) ≡ true
+  pub rules_apart : distinct (rule_names_in p) ≡ true
   pub few_rules : length p.rules ≤ 8
   pub row : Codes p.row
   pub few_boxes : length p.row ≤ 20000
