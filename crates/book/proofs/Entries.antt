@@ -4,30 +4,31 @@ use Rattle.std.specs.Str.{bytes_eq}
 use Rattle.std.proofs.lemmas.List.{length_push}
 use Rattle.std.proofs.lemmas.Slice.Eq.{bytes_eq-Decides}
 use Rattle.std.proofs.lemmas.Bool.{and_parts, and_from, or_parts, or_from, not-true, not_from_false, cases_Bool, both_ways, ltb-true, lt-ltb}
-use Rattle.entry.specs.Lists.{every, any}
-use Rattle.book.specs.Entries.{taken, distinct, Unique, known, all_known, held, all_held}
+use Rattle.std.specs.List.{list_all, list_any}
+use Rattle.book.specs.Entries.{distinct, Unique, known, all_known, held, all_held}
+use Rattle.entry.specs.Named.{taken}
 use Rattle.entry.specs.Rules.{motifs_of}
 use Rattle.entry.specs.declared.mark.Mark.{Mark}
 use Rattle.entry.specs.declared.rule.Rule.{Rule}
 
-pub every-push : {X : Type 0} (test : X → Bool) (xs : List X) (y : X) → every test xs ≡ true → test y ≡ true → every test (xs ++ y ∷ []) ≡ true
+pub every-push : {X : Type 0} (test : X → Bool) (xs : List X) (y : X) → list_all test xs ≡ true → test y ≡ true → list_all test (xs ++ y ∷ []) ≡ true
 every-push test [] y h t = and_from (test y) true t refl
 every-push test (x ∷ xs) y h t =
-    let p = and_parts (test x) (every test xs) h in
-    and_from (test x) (every test (xs ++ y ∷ [])) p.0 (every-push test xs y p.1 t)
+    let p = and_parts (test x) (list_all test xs) h in
+    and_from (test x) (list_all test (xs ++ y ∷ [])) p.0 (every-push test xs y p.1 t)
 
 -- a test that a weaker one follows
-pub every_weaker : {X : Type 0} (test test' : X → Bool) → ((x : X) → test x ≡ true → test' x ≡ true) → (xs : List X) → every test xs ≡ true → every test' xs ≡ true
+pub every_weaker : {X : Type 0} (test test' : X → Bool) → ((x : X) → test x ≡ true → test' x ≡ true) → (xs : List X) → list_all test xs ≡ true → list_all test' xs ≡ true
 every_weaker test test' so [] h = refl
 every_weaker test test' so (x ∷ xs) h =
-    let p = and_parts (test x) (every test xs) h in
-    and_from (test' x) (every test' xs) (so x p.0) (every_weaker test test' so xs p.1)
+    let p = and_parts (test x) (list_all test xs) h in
+    and_from (test' x) (list_all test' xs) (so x p.0) (every_weaker test test' so xs p.1)
 
-any_push : {X : Type 0} (test : X → Bool) (xs : List X) (y : X) → any test xs ≡ false → test y ≡ false → any test (xs ++ y ∷ []) ≡ false
+any_push : {X : Type 0} (test : X → Bool) (xs : List X) (y : X) → list_any test xs ≡ false → test y ≡ false → list_any test (xs ++ y ∷ []) ≡ false
 any_push test [] y h t = or_from (test y) false t refl
 any_push test (x ∷ xs) y h t =
-    let p = or_parts (test x) (any test xs) h in
-    or_from (test x) (any test (xs ++ y ∷ [])) p.0 (any_push test xs y p.1 t)
+    let p = or_parts (test x) (list_any test xs) h in
+    or_from (test x) (list_any test (xs ++ y ∷ [])) p.0 (any_push test xs y p.1 t)
 
 not_same : (m n : List ℕ) → bytes_eq n m ≡ false → bytes_eq m n ≡ false
 not_same m n h =

@@ -4,7 +4,8 @@ use Rattle.refusal.specs.Checks.{refuse}
 use Rattle.refusal.specs.declared.Refusal.{Refusal}
 use Rattle.refusal.specs.declared.Refusal.TheVariants.{BadNumber, BadShape, NameTaken, NoRoom, UnknownMotif}
 use Rattle.entry.specs.Named.{letters_of}
-use Rattle.book.specs.Entries.{motif_names, rule_names, taken, known}
+use Rattle.book.specs.Entries.{motif_names, rule_names, known}
+use Rattle.entry.specs.Named.{taken}
 use Rattle.book.specs.declared.values.book.Book.{Book}
 use Rattle.book.specs.declared.values.chapter.Chapter.{Chapter}
 use Rattle.entry.specs.declared.mark.Mark.{Mark}

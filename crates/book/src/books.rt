@@ -1,68 +1,19 @@
 // A book, and what is added to it.
-ghost use Rattle.std.specs.Prelude.{◌≡◌, ℕ, List, [], ◌∷◌, ◌++◌, map, length, is_ok, IfOk, if◌then◌else◌, OnErr, nat_lt};
+ghost use Rattle.std.specs.Prelude.{◌≡◌, [], ◌∷◌, ◌++◌, is_ok, IfOk, if◌then◌else◌, OnErr, nat_lt};
 ghost use Rattle.book.specs.Adding.{motif_fault, motifs_in, rule_add_fault, rules_in};
-ghost use Rattle.book.specs.Entries.{Unique, motif_names, rule_names, taken};
-ghost use Rattle.entry.specs.Lists.{any, every};
-ghost use Rattle.entry.specs.Named.{letters_of};
+ghost use Rattle.book.specs.Entries.{Unique, motif_names, rule_names};
 ghost use Rattle.refusal.specs.Checks.{refused_by};
-ghost use Rattle.std.specs.Str.{bytes_eq};
+ghost use Rattle.std.specs.List.{list_all};
 
 use crate::values::book::Book;
-use entry::{Motif, Rule};
+use entry::{Motif, Rule, is_taken};
 use refusal::Refusal;
 use std::alloc::{AllocError, Global};
 
-// What has a name among others of its kind.
-trait Named {
-    ghost called: { Self → List ℕ };
-
-    fn letters(&self) -> &[u8]
-        ensures { result.now ≡ called self.now };
-}
-
-impl Named for Motif {
-    ghost called = { λ m. letters_of m.name };
-
-    fn letters(&self) -> &[u8] {
-        self.name.letters()
-    }
-}
-
-impl Named for Rule {
-    ghost called = { λ r. letters_of r.name };
-
-    fn letters(&self) -> &[u8] {
-        self.name.letters()
-    }
-}
-
-fn same_letters(a: &[u8], b: &[u8]) -> bool
-    ensures { result ≡ bytes_eq a.now b.now }
-{
-    a == b
-}
-
-// Whether one of the entries has this name.
-fn name_taken<T: Named>(entries: &[T], letters: &[u8]) -> bool
-    ensures { result ≡ taken letters.now (map T.Named.called entries.now) }
-{
-    for entry in entries {
-        if same_letters(letters, entry.letters()) {
-            return true;
-        }
-    }
-    false
-}
-
 fn all_below(numbers: &[usize], count: usize) -> bool
-    ensures { result ≡ every (λ k. nat_lt k count) numbers.now }
+    ensures { result ≡ list_all (λ k. nat_lt k count) numbers.now }
 {
-    for k in numbers {
-        if *k >= count {
-            return false;
-        }
-    }
-    true
+    numbers.iter().all(|k| *k < count)
 }
 
 impl Book {
@@ -98,7 +49,7 @@ impl Book {
         ensures rules { rules_in self.new ≡ rules_in self.old }
         ensures same { OnErr result (self.new ≡ self.old) }
     {
-        if name_taken(self.motifs.as_slice(), motif.name.letters()) {
+        if is_taken(self.motifs.as_slice(), motif.name.letters()) {
             return Err(Refusal::NameTaken);
         }
         if self.motifs.len() >= 16 {
@@ -115,7 +66,7 @@ impl Book {
         ensures motifs { motifs_in self.new ≡ motifs_in self.old }
         ensures same { OnErr result (self.new ≡ self.old) }
     {
-        if name_taken(self.rules.as_slice(), rule.name.letters()) {
+        if is_taken(self.rules.as_slice(), rule.name.letters()) {
             return Err(Refusal::NameTaken);
         }
         if !all_below(rule.motifs(), self.motifs.len()) {

@@ -16,10 +16,7 @@ fn append(row: &mut Vec<u16>, codes: &[u16])
     ensures len { vec_len row.new ≡ vec_len row.old + length codes.now }
     ensures capacity { vec_capacity row.old ≤ vec_capacity row.new }
 {
-    match row.extend_from_slice(codes) {
-        Ok(()) => {}
-        Err(_) => unreachable(),
-    }
+    row.extend_from_slice(codes).unwrap();
 }
 
 impl Chapter {

@@ -1,4 +1,3 @@
-pub mod Lists
 pub mod Names
 pub mod Named
 pub mod Bodies

@@ -1,15 +1,16 @@
 -- What a rule means: its first motif and, for each further one, the range that leads to it.
-use Rattle.std.specs.Prelude.{ℕ, ◌+◌, ◌-◌, List, [], ◌∷◌, take, ℤ, ◌-ℤ◌, unsigned_abs}
+use Rattle.std.specs.Prelude.{ℕ, ◌+◌, List, [], ◌∷◌, ℤ, ◌-ℤ◌, unsigned_abs}
+use Rattle.few.specs.Few.{entries}
 use Rattle.entry.specs.declared.range.Range.{Range}
 use Rattle.entry.specs.declared.rule.Rule.{Rule}
 
 -- `motifs_of r`      the motifs of a rule, by their numbers
 abbrev pub motifs_of : Rule → List ℕ
-motifs_of r = take r.len r.motifs
+motifs_of r = entries r.motifs
 
 -- `ranges_of r`      its ranges, the k-th between motif k and motif k + 1
 abbrev pub ranges_of : Rule → List Range
-ranges_of r = take (r.len - 1) r.ranges
+ranges_of r = entries r.ranges
 
 -- how far a start may lie from the end before it
 pub record Span : Type 0 where

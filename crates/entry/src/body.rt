@@ -1,12 +1,13 @@
-ghost use Rattle.std.specs.Prelude.{◌≤◌};
+ghost use Rattle.std.specs.Prelude.{◌≤◌, length};
+ghost use Rattle.few.specs.Few.{entries};
+
+use few::Few;
 
 // 1 to 8 codes, of which a box has one.
 #[derive(Clone, Copy)]
 pub struct Class {
-    pub(crate) codes: [u16; 8],
-    pub(crate) len: usize,
-    ghost some: { 1 ≤ len },
-    ghost few: { len ≤ 8 },
+    pub(crate) codes: Few<u16, 8>,
+    ghost some: { 1 ≤ length (entries codes) },
 }
 
 // What one box of a stretch has to be.
@@ -20,8 +21,6 @@ pub enum Item {
 // 1 to 16 items, one for each box of a stretch.
 #[derive(Clone, Copy)]
 pub struct Body {
-    pub(crate) items: [Item; 16],
-    pub(crate) len: usize,
-    ghost some: { 1 ≤ len },
-    ghost few: { len ≤ 16 },
+    pub(crate) items: Few<Item, 16>,
+    ghost some: { 1 ≤ length (entries items) },
 }

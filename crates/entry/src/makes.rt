@@ -1,26 +1,22 @@
 // The calls that make a name, a class, a body, a range and a rule, or refuse by the number of the same fault in a line.
-ghost use Rattle.std.specs.Prelude.{◌≡◌, ◌≤◌, true, length, take, IfOk};
+ghost use Rattle.std.specs.Prelude.{◌≡◌, length, IfOk};
 ghost use Rattle.entry.specs.Bodies.{codes_of, items_of};
 ghost use Rattle.entry.specs.Faults.{name_fault, range_fault, rule_fault, size_fault};
-ghost use Rattle.entry.specs.Lists.{every};
 ghost use Rattle.entry.specs.Named.{letters_of};
 ghost use Rattle.entry.specs.Names.{is_letter};
 ghost use Rattle.entry.specs.Rules.{motifs_of, net_from, net_of, ranges_of};
 ghost use Rattle.refusal.specs.Checks.{refused_by};
+ghost use Rattle.std.specs.List.{list_all};
 
 use crate::body::{Body, Class, Item};
 use crate::name::Name;
 use crate::range::Range;
 use crate::rule::Rule;
+use few::Few;
 use refusal::Refusal;
 
-// Puts the items at the front of the room.
-fn put_front<T: Copy>(room: &mut [T], items: &[T])
-    requires { length items.now ≤ length room.old }
-    ensures { take (length items.now) room.new ≡ items.now }
-{
-    room[0..items.len()].copy_from_slice(items);
-}
+// How far a range may reach to either side.
+const FURTHEST: i32 = 2000;
 
 fn is_letter(byte: u8) -> bool
     ensures { result ≡ is_letter byte }
@@ -29,14 +25,9 @@ fn is_letter(byte: u8) -> bool
 }
 
 fn all_letters(bytes: &[u8]) -> bool
-    ensures { result ≡ every is_letter bytes.now }
+    ensures { result ≡ list_all is_letter bytes.now }
 {
-    for b in bytes {
-        if !is_letter(*b) {
-            return false;
-        }
-    }
-    true
+    bytes.iter().all(|byte| is_letter(*byte))
 }
 
 impl Name {
@@ -44,13 +35,11 @@ impl Name {
         ensures refused { refused_by result ≡ name_fault letters.now }
         ensures value { IfOk result (λ n. letters_of n ≡ letters.now) }
     {
-        let len = letters.len();
-        if len < 1 || len > 8 || !all_letters(letters) {
+        if letters.is_empty() || !all_letters(letters) {
             return Err(Refusal::BadName);
         }
-        let mut kept = [0; 8];
-        put_front(&mut kept, letters);
-        Ok(Name { letters: kept, len })
+        let letters = Few::of(0, letters).map_err(|_| Refusal::BadName)?;
+        Ok(Name { letters })
     }
 }
 
@@ -59,16 +48,11 @@ impl Class {
         ensures refused { refused_by result ≡ size_fault (length codes.now) 8 }
         ensures value { IfOk result (λ c. codes_of c ≡ codes.now) }
     {
-        let len = codes.len();
-        if len == 0 {
+        if codes.is_empty() {
             return Err(Refusal::BadShape);
         }
-        if len > 8 {
-            return Err(Refusal::TooMany);
-        }
-        let mut kept = [0; 8];
-        put_front(&mut kept, codes);
-        Ok(Class { codes: kept, len })
+        let codes = Few::of(0, codes).map_err(|_| Refusal::TooMany)?;
+        Ok(Class { codes })
     }
 }
 
@@ -77,16 +61,11 @@ impl Body {
         ensures refused { refused_by result ≡ size_fault (length items.now) 16 }
         ensures value { IfOk result (λ b. items_of b ≡ items.now) }
     {
-        let len = items.len();
-        if len == 0 {
+        if items.is_empty() {
             return Err(Refusal::BadShape);
         }
-        if len > 16 {
-            return Err(Refusal::TooMany);
-        }
-        let mut kept = [Item::Any; 16];
-        put_front(&mut kept, items);
-        Ok(Body { items: kept, len })
+        let items = Few::of(Item::Any, items).map_err(|_| Refusal::TooMany)?;
+        Ok(Body { items })
     }
 }
 
@@ -95,7 +74,8 @@ impl Range {
         ensures refused { refused_by result ≡ range_fault low high }
         ensures value { IfOk result (λ g. (g.low ≡ low) × (g.high ≡ high)) }
     {
-        if low < -2000 || low > 2000 || high < -2000 || high > 2000 {
+        let within = -FURTHEST..=FURTHEST;
+        if !within.contains(&low) || !within.contains(&high) {
             return Err(Refusal::BadNumber);
         }
         if low > high {
@@ -111,22 +91,15 @@ impl Rule {
         ensures value { IfOk result (λ x. (x.name ≡ name) × (motifs_of x ≡ motifs.now) × (ranges_of x ≡ ranges.now)) }
         ensures meaning { IfOk result (λ x. net_of x ≡ net_from motifs.now ranges.now) }
     {
-        let len = motifs.len();
-        if len == 0 || ranges.len() != len - 1 {
+        if motifs.is_empty() || ranges.len() != motifs.len() - 1 {
             return Err(Refusal::BadShape);
         }
-        if len > 12 {
-            return Err(Refusal::TooMany);
-        }
-        let mut kept_motifs = [0; 12];
-        put_front(&mut kept_motifs, motifs);
-        let mut kept_ranges = [Range { low: 0, high: 0 }; 11];
-        put_front(&mut kept_ranges, ranges);
+        let motifs = Few::of(0, motifs).map_err(|_| Refusal::TooMany)?;
+        let ranges = Few::of(Range { low: 0, high: 0 }, ranges).map_err(|_| Refusal::TooMany)?;
         Ok(Rule {
             name,
-            motifs: kept_motifs,
-            ranges: kept_ranges,
-            len,
+            motifs,
+            ranges,
         })
     }
 }

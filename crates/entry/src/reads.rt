@@ -1,7 +1,6 @@
 // What a value of a book holds.
-ghost use Rattle.std.specs.Prelude.{◌≡◌, ◌≤◌, nat_eq};
+ghost use Rattle.std.specs.Prelude.{◌≡◌, ◌≤◌};
 ghost use Rattle.entry.specs.Bodies.{codes_of, fits, items_of};
-ghost use Rattle.entry.specs.Lists.{any};
 ghost use Rattle.entry.specs.Named.{letters_of};
 ghost use Rattle.entry.specs.Rules.{motifs_of, ranges_of, span_of, width};
 
@@ -14,26 +13,15 @@ impl Name {
     pub fn letters(&self) -> &[u8]
         ensures { result.now ≡ letters_of self.now }
     {
-        &self.letters[0..self.len]
+        self.letters.as_slice()
     }
-}
-
-fn has_code(codes: &[u16], code: u16) -> bool
-    ensures { result ≡ any (nat_eq code) codes.now }
-{
-    for c in codes {
-        if code == *c {
-            return true;
-        }
-    }
-    false
 }
 
 impl Class {
     pub fn codes(&self) -> &[u16]
         ensures { result.now ≡ codes_of self.now }
     {
-        &self.codes[0..self.len]
+        self.codes.as_slice()
     }
 }
 
@@ -45,7 +33,7 @@ impl Item {
         match self {
             Item::Code(c) => code == *c,
             Item::Any => true,
-            Item::Class(class) => has_code(class.codes(), code),
+            Item::Class(class) => class.codes().contains(&code),
         }
     }
 }
@@ -54,7 +42,7 @@ impl Body {
     pub fn items(&self) -> &[Item]
         ensures { result.now ≡ items_of self.now }
     {
-        &self.items[0..self.len]
+        self.items.as_slice()
     }
 }
 
@@ -72,12 +60,12 @@ impl Rule {
     pub fn motifs(&self) -> &[usize]
         ensures { result.now ≡ motifs_of self.now }
     {
-        &self.motifs[0..self.len]
+        self.motifs.as_slice()
     }
 
     pub fn ranges(&self) -> &[Range]
         ensures { result.now ≡ ranges_of self.now }
     {
-        &self.ranges[0..self.len - 1]
+        self.ranges.as_slice()
     }
 }

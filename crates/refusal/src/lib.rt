@@ -1,68 +1,67 @@
 // Why a call refuses: one named case for each of the 25 numbers of docs/REFUSALS.md.
 #![tactic(auto)]
 
-ghost use Rattle.std.specs.Prelude.{◌≡◌, ◌≤◌, ◌++◌, ◌↔◌, Some, IsTrue, codes, decimal, nat_eq};
+ghost use Rattle.std.specs.Prelude.{◌≡◌, ◌≤◌, ◌++◌, Some, codes, decimal};
 ghost use Rattle.refusal.specs.Numbers.{number_of};
-ghost use Rattle.std.specs.Cmp.{partial_equiv_from_equiv};
-ghost use Rattle.std.specs.Cmp.Rules.{comparing};
-ghost use Rattle.std.specs.Ordering.{on};
-ghost use Rattle.std.proofs.Common.{rules};
 
+pub mod layer;
+
+pub use self::layer::Layer;
 use std::error::Error;
 use std::fmt;
 
-#[derive(Clone, Copy, Debug)]
+#[derive(Clone, Copy, PartialEq, Eq, Debug)]
 pub enum Refusal {
     // The job or a line is too long.
-    TooLong,
+    TooLong = 1,
     // A line begins with no known pair.
-    UnknownKind,
+    UnknownKind = 2,
     // A line has the wrong number of commas.
-    WrongCommas,
+    WrongCommas = 3,
     // A name isn't 1 to 8 letters a to z.
-    BadName,
+    BadName = 4,
     // A number isn't well formed or leaves its limits.
-    BadNumber,
+    BadNumber = 5,
     // A field hasn't its shape.
-    BadShape,
+    BadShape = 6,
     // A range has its low above its high.
-    BackwardRange,
+    BackwardRange = 7,
     // A body, a class or a net has too many entries.
-    TooMany,
+    TooMany = 8,
     // A name is taken in its kind.
-    NameTaken,
+    NameTaken = 9,
     // A motif isn't in the book.
-    UnknownMotif,
+    UnknownMotif = 10,
     // There is no room for one more.
-    NoRoom,
+    NoRoom = 11,
     // A length is above 20,000.
-    SourceTooLong,
+    SourceTooLong = 12,
     // A mark is unlawful or out of order.
-    BadMark,
+    BadMark = 13,
     // A rule's number isn't in the book.
-    UnknownRule,
+    UnknownRule = 14,
     // A number of a forecast is above 1,000,000,000.
-    ForecastTooLarge,
+    ForecastTooLarge = 15,
     // An order isn't one of the rule's.
-    BadOrder,
+    BadOrder = 16,
     // The sheet is laid already.
-    SheetLaid,
+    SheetLaid = 17,
     // The sheet is clean.
-    SheetClean,
+    SheetClean = 18,
     // An allowance isn't 1 to 1,000,000.
-    BadAllowance,
+    BadAllowance = 19,
     // A find isn't taken yet.
-    FindHeld,
+    FindHeld = 20,
     // The bill has come to 10^12.
-    BillTooHigh,
+    BillTooHigh = 21,
     // There is no find to take.
-    NoFind,
+    NoFind = 22,
     // A strip has under 24 numbers.
-    ShortStrip,
+    ShortStrip = 23,
     // A show isn't lawful.
-    BadShow,
+    BadShow = 24,
     // There is too little room for a line.
-    ShortLine,
+    ShortLine = 25,
 }
 
 impl Refusal {
@@ -72,51 +71,8 @@ impl Refusal {
         ensures bound { (1 ≤ result) × (result ≤ 25) }
         ensures apart { (other : Refusal) → number_of other ≡ result → other ≡ self }
     {
-        match self {
-            Refusal::TooLong => 1,
-            Refusal::UnknownKind => 2,
-            Refusal::WrongCommas => 3,
-            Refusal::BadName => 4,
-            Refusal::BadNumber => 5,
-            Refusal::BadShape => 6,
-            Refusal::BackwardRange => 7,
-            Refusal::TooMany => 8,
-            Refusal::NameTaken => 9,
-            Refusal::UnknownMotif => 10,
-            Refusal::NoRoom => 11,
-            Refusal::SourceTooLong => 12,
-            Refusal::BadMark => 13,
-            Refusal::UnknownRule => 14,
-            Refusal::ForecastTooLarge => 15,
-            Refusal::BadOrder => 16,
-            Refusal::SheetLaid => 17,
-            Refusal::SheetClean => 18,
-            Refusal::BadAllowance => 19,
-            Refusal::FindHeld => 20,
-            Refusal::BillTooHigh => 21,
-            Refusal::NoFind => 22,
-            Refusal::ShortStrip => 23,
-            Refusal::BadShow => 24,
-            Refusal::ShortLine => 25,
-        }
+        self as u8
     }
-}
-
-impl PartialEq for Refusal {
-    ghost eq = { on number_of nat_eq };
-
-    ghost laws = { partial_equiv_from_equiv (Prim.search (comparing, rules)) };
-
-    fn eq(&self, other: &Refusal) -> bool
-        ensures numbers { result ≡ nat_eq (number_of self.now) (number_of other.now) }
-        ensures decides { IsTrue result ↔ (self.now ≡ other.now) }
-    {
-        self.number() == other.number()
-    }
-}
-
-impl Eq for Refusal {
-    ghost laws = { Prim.search (comparing, rules) };
 }
 
 // What a program says of a refusal that it didn't expect.
