@@ -1,7 +1,7 @@
 -- What a BODY says: no body, its items, or the place of the first entry too many. Its parts at the spaces are read one by
 -- one; a field that hasn't its shape is read too, but its line is refused before.
-use Rattle.std.specs.Prelude.{ℕ, ◌+◌, ◌-◌, Bool, false, cond, ◌||◌, List, [], ◌∷◌, ◌++◌, length, take, drop, Some, None, Ok, Err, Option, Result, ◌==◌, nat_le, slice_index}
-use Rattle.parts.specs.Parts.{parts}
+use Rattle.std.specs.Prelude.{ℕ, ◌-◌, Bool, false, cond, ◌||◌, List, [], ◌∷◌, ◌++◌, length, take, drop, Some, None, Ok, Err, Option, Result, ◌==◌, nat_le, slice_index}
+use Rattle.parts.specs.Parts.{Placed, parts, placed}
 use Rattle.word.specs.Numbers.{code_of}
 use Rattle.body.specs.Entries.{Entry, code, any, one_of}
 
@@ -53,11 +53,15 @@ go_on es (Some cs) p = inside_class es cs p
 abbrev pub onward : ℕ → Reading → List ℕ → Result Reading ℕ
 onward at r p = cond (nat_le 16 (length r.items) || full r.class) (Err at) (Ok (go_on r.items r.class p))
 
--- `read_from at r ps`   the parts ps, of which the first is at the place `at`
+-- `read_all r ps`   the parts ps, behind what was read
+abbrev pub read_all : Result Reading ℕ → List Placed → Result Reading ℕ
+read_all (Err p) ps = Err p
+read_all (Ok r) [] = Ok r
+read_all (Ok r) (p ∷ ps) = read_all (onward p.at r p.bytes) ps
+
+-- `read_from at r ps`   the same, where the first of the parts is at the place `at`
 abbrev pub read_from : ℕ → Result Reading ℕ → List (List ℕ) → Result Reading ℕ
-read_from at (Err p) ps = Err p
-read_from at (Ok r) [] = Ok r
-read_from at (Ok r) (p ∷ ps) = read_from (at + length p + 1) (onward at r p) ps
+read_from at r ps = read_all r (placed at ps)
 
 -- `or_none es`    no body where there are no items
 abbrev pub or_none : List Entry → Option (List Entry)

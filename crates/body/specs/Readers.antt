@@ -1,21 +1,19 @@
 -- What a reader of a body has read.
-use Rattle.std.specs.Prelude.{ℕ, List, map, take, Some, None, Ok, Err, Option, Result}
+use Rattle.std.specs.Prelude.{ℕ, List, map, Some, None, Ok, Err, Option, Result}
+use Rattle.few.specs.Few.{entries}
+use Rattle.few.specs.declared.list.Few.{Few}
 use Rattle.entry.specs.declared.body.Body.{Body}
+use Rattle.entry.specs.declared.body.Item.{Item}
 use Rattle.body.specs.Entries.{Entry, entry_of, entries_of}
 use Rattle.body.specs.Bodies.{Reading}
-use Rattle.body.specs.declared.kept.Codes.{Codes}
-use Rattle.body.specs.declared.kept.Items.{Items}
-use Rattle.body.specs.declared.kept.Reader.{Reader}
+use Rattle.body.specs.declared.Reader.{Reader}
 
-abbrev pub codes_kept : Codes → List ℕ
-codes_kept c = take c.len c.codes
+abbrev pub items_kept : Few Item 16 → List Entry
+items_kept s = map entry_of (entries s)
 
-abbrev pub items_kept : Items → List Entry
-items_kept s = map entry_of (take s.len s.items)
-
-abbrev pub class_kept : Option Codes → Option (List ℕ)
+abbrev pub class_kept : Option (Few ℕ 8) → Option (List ℕ)
 class_kept None = None
-class_kept (Some c) = Some (codes_kept c)
+class_kept (Some c) = Some (entries c)
 
 abbrev pub read_so_far : Reader → Reading
 read_so_far r = record { items = items_kept r.items; class = class_kept r.class }

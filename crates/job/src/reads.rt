@@ -4,11 +4,11 @@ ghost use Rattle.job.specs.Jobs.{line_read, job_read};
 ghost use Rattle.job.specs.Laws.{ReadingLaws};
 ghost use Rattle.refusal.specs.Checks.{refused_by};
 ghost use Rattle.text.specs.Pages.{page_of};
-ghost use Rattle.text.specs.Taking.{fault_in, page_or};
+ghost use Rattle.text.specs.Taking.{Takes};
 
 use crate::fault::JobFault;
 use book::Chapter;
-use parts::part_end;
+use parts::Parts;
 use text::{TextFault, take_line};
 
 // The bytes of a job, at most.
@@ -16,10 +16,9 @@ const LONGEST: usize = 60_000;
 
 // Takes a line into the chapter; an empty one brings nothing.
 fn take_next(chapter: &mut Chapter, line: &[u8]) -> Result<(), TextFault>
-    ensures refused { refused_by result ≡ fault_in (line_read (page_of chapter.old) line.now) }
-    ensures page { page_of chapter.new ≡ page_or (page_of chapter.old) (line_read (page_of chapter.old) line.now) }
+    ensures { Takes (line_read (page_of chapter.old) line.now) (page_of chapter.old) (page_of chapter.new) result }
 {
-    if line.len() == 0 {
+    if line.is_empty() {
         return Ok(());
     }
     take_line(chapter, line)
@@ -36,30 +35,21 @@ pub fn read_job(job: &[u8], chapter: &mut Chapter) -> Result<(), JobFault>
             fault: TextFault::JobTooLong,
         });
     }
-    let mut line: usize = 0;
-    let mut from = 0;
-    while from <= job.len() {
-        line += 1;
-        let to = part_end(job, from, b'\n');
-        match take_next(chapter, &job[from..to]) {
-            Ok(()) => {}
-            Err(fault) => return Err(JobFault { line, fault }),
-        }
-        from = to + 1;
+    for (before, line) in Parts::new(job, b'\n').enumerate() {
+        take_next(chapter, line.bytes).map_err(|fault| JobFault {
+            line: before + 1,
+            fault,
+        })?;
     }
     Ok(())
 }
 
 // The worked jobs are read as they say.
-pub fn examples_stand() -> u8
+pub fn examples_stand()
     ensures { WorkedJobs }
-{
-    0
-}
+{}
 
 // Where a job is refused, and what it leaves.
-pub fn laws_stand() -> u8
+pub fn laws_stand()
     ensures { ReadingLaws }
-{
-    0
-}
+{}

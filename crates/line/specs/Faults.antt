@@ -3,8 +3,8 @@ use Rattle.std.specs.Prelude.{ℕ}
 use Rattle.refusal.specs.declared.Refusal.{Refusal}
 use Rattle.refusal.specs.declared.Refusal.TheVariants.{UnknownKind as ByKind, WrongCommas as ByCommas, BadShape as ByShape, BackwardRange as ByRange, TooMany as ByMany}
 use Rattle.word.specs.Faults.{word_refusal, word_place}
-use Rattle.line.specs.declared.faults.Layer.{Layer}
-use Rattle.line.specs.declared.faults.Layer.TheVariants.{InWord, InLine}
+use Rattle.refusal.specs.declared.layer.Layer.{Layer}
+use Rattle.refusal.specs.declared.layer.Layer.TheVariants.{Word as InWord, Line as InLine}
 use Rattle.line.specs.declared.faults.LineFault.{LineFault}
 use Rattle.line.specs.declared.faults.LineFault.TheVariants.{UnknownKind, WrongCommas, Word, BadShape, BackwardRange, TooMany}
 

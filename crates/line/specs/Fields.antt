@@ -1,6 +1,7 @@
--- The kind of a line, and its fields with their places.
-use Rattle.std.specs.Prelude.{ℕ, ◌+◌, cond, List, [], ◌∷◌, length, Some, None, Option, ◌==◌}
+-- The kind of a line, and its fields, which are parts of it, each with its place.
+use Rattle.std.specs.Prelude.{ℕ, cond, List, [], ◌∷◌, Some, None, Option, ◌==◌}
 use Rattle.parts.specs.Parts.{left}
+pub use Rattle.parts.specs.Parts.{Placed, placed}
 use Rattle.word.specs.Fields.{bytes_of}
 use Rattle.word.specs.declared.field.Field.{Field}
 use Rattle.line.specs.declared.kinds.Kind.{Kind}
@@ -22,15 +23,6 @@ commas_of Motif = 3
 commas_of Rule = 2
 commas_of Boxes = 1
 commas_of Mark = 3
-
--- a field, and the place in its line at which it begins
-pub record Placed : Type 0 where
-  pub at : ℕ
-  pub bytes : List ℕ
-
-abbrev pub placed : ℕ → List (List ℕ) → List Placed
-placed at [] = []
-placed at (w ∷ ws) = record { at = at; bytes = w } ∷ placed (at + length w + 1) ws
 
 -- `fields l`        the fields of a line behind its letter
 abbrev pub fields : List ℕ → List Placed

@@ -1,7 +1,10 @@
 -- What a line without fault says.
-use Rattle.std.specs.Prelude.{ℕ, List, [], ◌∷◌, Some, None, Option}
+use Rattle.std.specs.Prelude.{◌≡◌, ℕ, List, [], ◌∷◌, Some, None, Option, Result, IfOk}
+use Rattle.refusal.specs.Checks.{refused_by}
 use Rattle.word.specs.Numbers.{code_of, place_of}
 use Rattle.line.specs.Fields.{Placed, fields, kind_in}
+use Rattle.line.specs.Lines.{fields_fault}
+use Rattle.line.specs.declared.faults.LineFault.{LineFault}
 use Rattle.line.specs.declared.kinds.Kind.{Kind}
 use Rattle.line.specs.declared.kinds.Kind.TheVariants.{Motif, Rule, Boxes, Mark}
 use Rattle.line.specs.declared.kinds.Line.{Line}
@@ -38,3 +41,8 @@ said (MotifLine name weight body) = motif name.now weight body.now
 said (RuleLine name net) = rule name.now net.now
 said (BoxesLine codes) = boxes codes.now
 said (MarkLine name start end) = mark name.now start end
+
+-- `ReadsAs k line r`  a line of the kind k is refused by the first fault of its fields, or read as it says
+pub record ReadsAs (k : Kind) (line : List ℕ) (r : Result Line LineFault) : Type 0 where
+  pub refused : refused_by r ≡ fields_fault k (fields line)
+  pub value : IfOk r (λ x. said x ≡ says_by (Some k) (fields line))

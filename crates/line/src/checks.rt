@@ -10,58 +10,50 @@ use net::{NetReader, Token};
 use shape::{Form, shape_fault};
 use word::Field;
 
+// The names of a net, at most.
+const MOST_NAMES: usize = 12;
+
 pub(crate) fn check_shape(field: Field<'_>, form: Form) -> Result<(), LineFault>
     ensures { refused_by result ≡ bad_shape form (placed_of field.entry) }
 {
-    match shape_fault(form, field.bytes()) {
-        Some(q) => Err(LineFault::BadShape(field.from + q)),
-        None => Ok(()),
-    }
+    shape_fault(form, field.bytes()).map_or(Ok(()), |q| Err(LineFault::BadShape(field.from + q)))
 }
 
 pub(crate) fn check_items(body: Field<'_>) -> Result<(), LineFault>
     ensures { refused_by result ≡ too_many_items (placed_of body.entry) }
 {
-    match read_body(body.bytes()) {
-        Err(q) => Err(LineFault::TooMany(body.from + q)),
-        Ok(_) => Ok(()),
-    }
+    read_body(body.bytes())
+        .map(|_| ())
+        .map_err(|q| LineFault::TooMany(body.from + q))
 }
 
+// Loops, here and below: with `find`, and with `filter` and `nth`, the goal `returns` stayed open, as the library's lemmas
+// on them do not fit items that have a lifetime.
 pub(crate) fn check_ranges(net: Field<'_>) -> Result<(), LineFault>
     ensures { refused_by result ≡ backward_range (placed_of net.entry) }
 {
-    let mut reader = NetReader::new(net.bytes());
-    loop {
-        let at = reader.place();
-        match reader.next() {
-            Token::Range(bounds) => {
-                if bounds.high < bounds.low {
-                    return Err(LineFault::BackwardRange(net.from + at));
-                }
+    for token in NetReader::new(net.bytes()) {
+        match token {
+            Token::Range { at, bounds } if bounds.high < bounds.low => {
+                return Err(LineFault::BackwardRange(net.from + at));
             }
-            Token::Name(_) => {}
-            Token::End => return Ok(()),
+            _ => {}
         }
     }
+    Ok(())
 }
 
 pub(crate) fn check_names(net: Field<'_>) -> Result<(), LineFault>
     ensures { refused_by result ≡ too_many_names (placed_of net.entry) }
 {
-    let mut reader = NetReader::new(net.bytes());
     let mut names: usize = 0;
-    loop {
-        let at = reader.place();
-        match reader.next() {
-            Token::Name(_) => {
-                if names >= 12 {
-                    return Err(LineFault::TooMany(net.from + at));
-                }
-                names += 1;
+    for token in NetReader::new(net.bytes()) {
+        if let Token::Name { at, .. } = token {
+            if names >= MOST_NAMES {
+                return Err(LineFault::TooMany(net.from + at));
             }
-            Token::Range(_) => {}
-            Token::End => return Ok(()),
+            names += 1;
         }
     }
+    Ok(())
 }

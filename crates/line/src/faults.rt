@@ -2,19 +2,11 @@ ghost use Rattle.std.specs.Prelude.{◌≡◌};
 ghost use Rattle.line.specs.declared.faults.LineFault.TheVariants.{Word};
 ghost use Rattle.line.specs.Faults.{line_layer, line_place, line_refusal};
 
-use refusal::Refusal;
+use refusal::{Layer, Refusal};
 use word::WordFault;
 
-// Which layer finds a fault.
-#[derive(Clone, Copy)]
-pub enum Layer {
-    InWord,
-    InLine,
-    InText,
-}
-
 // What is wrong with a line, and at which place.
-#[derive(Clone, Copy)]
+#[derive(Clone, Copy, PartialEq, Eq, Debug)]
 pub enum LineFault {
     // None of the four pairs begins the line.
     UnknownKind,
@@ -38,26 +30,28 @@ impl From<WordFault> for LineFault {
     }
 }
 
-impl LineFault {
-    pub fn refusal(self) -> Refusal
-        ensures { result ≡ line_refusal self }
-    {
-        match self {
+impl From<LineFault> for Refusal {
+    ghost from_gives = { λ e r. r ≡ line_refusal e };
+
+    fn from(fault: LineFault) -> Refusal {
+        match fault {
             LineFault::UnknownKind => Refusal::UnknownKind,
             LineFault::WrongCommas(_) => Refusal::WrongCommas,
-            LineFault::Word(fault) => fault.refusal(),
+            LineFault::Word(fault) => Refusal::from(fault),
             LineFault::BadShape(_) => Refusal::BadShape,
             LineFault::BackwardRange(_) => Refusal::BackwardRange,
             LineFault::TooMany(_) => Refusal::TooMany,
         }
     }
+}
 
+impl LineFault {
     pub fn layer(self) -> Layer
         ensures { result ≡ line_layer self }
     {
         match self {
-            LineFault::Word(_) => Layer::InWord,
-            _ => Layer::InLine,
+            LineFault::Word(_) => Layer::Word,
+            _ => Layer::Line,
         }
     }
 

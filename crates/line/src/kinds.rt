@@ -2,7 +2,7 @@ ghost use Rattle.std.specs.Prelude.{◌≡◌};
 ghost use Rattle.line.specs.Fields.{commas_of, kind_in};
 
 // The four kinds of lines.
-#[derive(Clone, Copy)]
+#[derive(Clone, Copy, PartialEq, Eq, Debug)]
 pub enum Kind {
     Motif,
     Rule,
@@ -11,7 +11,7 @@ pub enum Kind {
 }
 
 // A line without fault: its numbers, and the bytes of its other fields where they stand in the line.
-#[derive(Drop)]
+#[derive(Clone, Copy, PartialEq, Eq, Debug)]
 pub enum Line<'a> {
     Motif {
         name: &'a [u8],

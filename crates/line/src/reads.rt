@@ -1,8 +1,8 @@
 // One line, judged number by number over the whole of it.
-ghost use Rattle.std.specs.Prelude.{◌≡◌, ◌+◌, ◌<◌, ◌≤◌, ◌∷◌, length, IfOk, Some};
-ghost use Rattle.line.specs.Fields.{fields, placed, placed_of};
-ghost use Rattle.line.specs.Lines.{boxes_fault, fields_fault, line_fault, mark_fault, motif_fault, rule_fault};
-ghost use Rattle.line.specs.Said.{line_says, said, says_by};
+ghost use Rattle.std.specs.Prelude.{◌≡◌, ◌+◌, ◌<◌, ◌≤◌, ◌∷◌, length, IfOk};
+ghost use Rattle.line.specs.Fields.{placed, placed_of};
+ghost use Rattle.line.specs.Lines.{boxes_fault, line_fault, mark_fault, motif_fault, rule_fault};
+ghost use Rattle.line.specs.Said.{ReadsAs, line_says, said};
 ghost use Rattle.line.specs.declared.kinds.Kind.TheVariants.{Boxes, Mark, Motif, Rule};
 ghost use Rattle.parts.specs.Parts.{left};
 ghost use Rattle.refusal.specs.Checks.{refused_by};
@@ -53,7 +53,9 @@ fn judge_mark(name: Field<'_>, start: Field<'_>, end: Field<'_>) -> Result<(), L
     check_shape(end, Form::Number)
 }
 
-// The field of the line that begins at `from`, with those behind it left.
+// The field of the line that begins at `from`, with those behind it left. The readers below ask for as many as their
+// kind has; the parts of the line as an iterator would answer each with an Option that is never none.
+#[tactic(auto, using(crate::proofs::Splits::within, crate::proofs::Splits::fewer, parts::proofs::Cuts::placed_cut))]
 fn field_at(line: &[u8], from: usize) -> Field<'_>
     requires { 0 < length (left 44 line.now from) }
     ensures fewer { length (left 44 line.now from) ≡ 1 + length (left 44 line.now (result.to + 1)) }
@@ -66,8 +68,7 @@ fn field_at(line: &[u8], from: usize) -> Field<'_>
 
 fn read_motif(line: &[u8]) -> Result<Line<'_>, LineFault>
     requires { length (left 44 line.now 2) ≡ 3 }
-    ensures refused { refused_by result ≡ fields_fault Motif (fields line.now) }
-    ensures value { IfOk result (λ x. said x ≡ says_by (Some Motif) (fields line.now)) }
+    ensures { ReadsAs Motif line.now result }
 {
     let name = field_at(line, 2);
     let weight = field_at(line, name.to + 1);
@@ -82,8 +83,7 @@ fn read_motif(line: &[u8]) -> Result<Line<'_>, LineFault>
 
 fn read_rule(line: &[u8]) -> Result<Line<'_>, LineFault>
     requires { length (left 44 line.now 2) ≡ 2 }
-    ensures refused { refused_by result ≡ fields_fault Rule (fields line.now) }
-    ensures value { IfOk result (λ x. said x ≡ says_by (Some Rule) (fields line.now)) }
+    ensures { ReadsAs Rule line.now result }
 {
     let name = field_at(line, 2);
     let net = field_at(line, name.to + 1);
@@ -96,8 +96,7 @@ fn read_rule(line: &[u8]) -> Result<Line<'_>, LineFault>
 
 fn read_boxes(line: &[u8]) -> Result<Line<'_>, LineFault>
     requires { length (left 44 line.now 2) ≡ 1 }
-    ensures refused { refused_by result ≡ fields_fault Boxes (fields line.now) }
-    ensures value { IfOk result (λ x. said x ≡ says_by (Some Boxes) (fields line.now)) }
+    ensures { ReadsAs Boxes line.now result }
 {
     let codes = field_at(line, 2);
     judge_boxes(codes)?;
@@ -108,8 +107,7 @@ fn read_boxes(line: &[u8]) -> Result<Line<'_>, LineFault>
 
 fn read_mark(line: &[u8]) -> Result<Line<'_>, LineFault>
     requires { length (left 44 line.now 2) ≡ 3 }
-    ensures refused { refused_by result ≡ fields_fault Mark (fields line.now) }
-    ensures value { IfOk result (λ x. said x ≡ says_by (Some Mark) (fields line.now)) }
+    ensures { ReadsAs Mark line.now result }
 {
     let name = field_at(line, 2);
     let start = field_at(line, name.to + 1);
@@ -123,6 +121,7 @@ fn read_mark(line: &[u8]) -> Result<Line<'_>, LineFault>
 }
 
 // What a line says, or the first fault that it has; any bytes may come.
+#[tactic(auto, using(crate::proofs::Splits::as_many))]
 pub fn read_line(line: &[u8]) -> Result<Line<'_>, LineFault>
     ensures refused { refused_by result ≡ line_fault line.now }
     ensures value { IfOk result (λ x. said x ≡ line_says line.now) }
@@ -133,6 +132,7 @@ pub fn read_line(line: &[u8]) -> Result<Line<'_>, LineFault>
     if count(line, b',') != kind.commas() {
         return Err(LineFault::WrongCommas(line.len()));
     }
+    // The kinds are four for good, so a match says more than a table of functions.
     match kind {
         Kind::Motif => read_motif(line),
         Kind::Rule => read_rule(line),

@@ -2,7 +2,7 @@
 -- two that are `<l` and `r>` make a range, and every other part is a name, whatever its bytes.
 use Rattle.std.specs.Prelude.{ℕ, ◌+◌, ◌-◌, cond, List, [], ◌∷◌, length, take, ℤ, Some, None, Option, ◌==◌, int_lt, nat_le, slice_index}
 use Rattle.refusal.specs.Checks.{refuse}
-use Rattle.parts.specs.Parts.{left, parts}
+use Rattle.parts.specs.Parts.{Placed, parts, placed}
 use Rattle.word.specs.Numbers.{number_of}
 use Rattle.net.specs.declared.Bounds.{Bounds}
 use Rattle.word.specs.declared.limits.Limits.TheVariants.{Shift}
@@ -10,6 +10,10 @@ use Rattle.word.specs.declared.limits.Limits.TheVariants.{Shift}
 pub data Tok : Type 0 where
   name : ℕ → List ℕ → Tok
   range : ℕ → Bounds → Tok
+
+abbrev pub place_of : Tok → ℕ
+place_of (name at w) = at
+place_of (range at g) = at
 
 -- `low_of p`        the number behind `<`
 abbrev pub low_of : List ℕ → Option ℤ
@@ -33,16 +37,15 @@ abbrev pub range_or : {A : Type 0} → Option Bounds → (Bounds → A) → A �
 range_or None f x = x
 range_or (Some g) f x = f g
 
--- `tokens at ps`   the tokens of the parts, of which the first is at the place `at`
-abbrev pub tokens : ℕ → List (List ℕ) → List Tok
-tokens at [] = []
-tokens at (p ∷ []) = name at p ∷ []
-tokens at (p ∷ q ∷ ps) =
-    range_or (bounds_of p q) (λ g. range at g ∷ tokens (at + length p + 1 + length q + 1) ps) (name at p ∷ tokens (at + length p + 1) (q ∷ ps))
+-- `tokens_of ps`   the tokens of the parts ps
+abbrev pub tokens_of : List Placed → List Tok
+tokens_of [] = []
+tokens_of (p ∷ []) = name p.at p.bytes ∷ []
+tokens_of (p ∷ q ∷ ps) = range_or (bounds_of p.bytes q.bytes) (λ g. range p.at g ∷ tokens_of ps) (name p.at p.bytes ∷ tokens_of (q ∷ ps))
 
--- `tokens_from w i`   the tokens of the field w from its place i on
-abbrev pub tokens_from : List ℕ → ℕ → List Tok
-tokens_from w i = tokens i (left 32 w i)
+-- `tokens at ps`   the same, where the first of the parts is at the place `at`
+abbrev pub tokens : ℕ → List (List ℕ) → List Tok
+tokens at ps = tokens_of (placed at ps)
 
 abbrev pub net_tokens : List ℕ → List Tok
 net_tokens w = tokens 0 (parts 32 w)

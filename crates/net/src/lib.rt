@@ -1,11 +1,13 @@
 // The names and ranges of a NET, one by one.
 #![tactic(auto)]
 
-ghost use Rattle.std.specs.Prelude.{◌≡◌};
-ghost use Rattle.net.specs.Readers.{Moves, Yields};
-ghost use Rattle.net.specs.Tokens.{bounds_of, high_of, low_of};
+ghost use Rattle.std.specs.Prelude.{◌≡◌, ◌≤◌, length};
+ghost use Rattle.std.specs.Iterator.{YieldsFirstBy, item_count};
+ghost use Rattle.std.specs.List.{AllByRecursion};
+ghost use Rattle.net.specs.Readers.{token_of, tokens_left};
+ghost use Rattle.net.specs.Tokens.{bounds_of, high_of, low_of, net_tokens, place_of};
 
-use parts::part_end;
+use parts::Parts;
 use word::{Limits, read_number};
 
 // The numbers of a range, as they are written.
@@ -15,18 +17,18 @@ pub struct Bounds {
     pub high: i32,
 }
 
+// What a net has, and the place of the field at which it begins.
+#[derive(Clone, Copy)]
 pub enum Token<'a> {
     // The very bytes of the field.
-    Name(&'a [u8]),
-    Range(Bounds),
-    // The field's end.
-    End,
+    Name { at: usize, letters: &'a [u8] },
+    Range { at: usize, bounds: Bounds },
 }
 
-#[derive(Drop)]
+// The names and ranges of a field in turn.
+#[derive(Clone, Copy)]
 pub struct NetReader<'a> {
-    field: &'a [u8],
-    at: usize,
+    parts: Parts<'a>,
 }
 
 fn low_of(part: &[u8]) -> Option<i32>
@@ -58,39 +60,37 @@ fn bounds_of(first: &[u8], second: &[u8]) -> Option<Bounds>
 
 impl<'a> NetReader<'a> {
     pub fn new(field: &'a [u8]) -> NetReader<'a>
-        ensures field { result.field.now ≡ field.now }
-        ensures at { result.at ≡ 0 }
+        ensures left { tokens_left result ≡ net_tokens field.now }
+        ensures within { AllByRecursion (λ t. place_of t ≤ length field.now) (tokens_left result) }
     {
-        NetReader { field, at: 0 }
-    }
-
-    // The place in the field of what comes next.
-    pub fn place(&self) -> usize
-        ensures { result ≡ self.now.at }
-    {
-        self.at
-    }
-
-    // The next name or range, or the field's end.
-    pub fn next(&mut self) -> Token<'a>
-        ensures same { self.new.field ≡ self.old.field }
-        ensures yields { Yields self.old.field.now self.old.at result self.new.at }
-        ensures moves { Moves self.old.field.now self.old.at result self.new.at }
-    {
-        let field = self.field;
-        let from = self.at;
-        if from > field.len() {
-            return Token::End;
+        NetReader {
+            parts: Parts::new(field, b' '),
         }
-        let to = part_end(field, from, b' ');
-        if to < field.len() {
-            let end = part_end(field, to + 1, b' ');
-            if let Some(bounds) = bounds_of(&field[from..to], &field[to + 1..end]) {
-                self.at = end + 1;
-                return Token::Range(bounds);
+    }
+}
+
+impl<'a> Iterator for NetReader<'a> {
+    type Item = Token<'a>;
+
+    ghost next_gives = { YieldsFirstBy token_of tokens_left };
+
+    ghost remaining = { item_count tokens_left };
+
+    fn next(&mut self) -> Option<Token<'a>> {
+        let first = self.parts.next()?;
+        let mut ahead = self.parts;
+        if let Some(second) = ahead.next() {
+            if let Some(bounds) = bounds_of(first.bytes, second.bytes) {
+                self.parts = ahead;
+                return Some(Token::Range {
+                    at: first.from,
+                    bounds,
+                });
             }
         }
-        self.at = to + 1;
-        Token::Name(&field[from..to])
+        Some(Token::Name {
+            at: first.from,
+            letters: first.bytes,
+        })
     }
 }

@@ -2,9 +2,10 @@
 use Rattle.std.proofs.Common.{◌≡◌, ℕ, suc, ◌+◌, ◌-◌, ◌<◌, ◌≤◌, false, cond, eqb, List, [], ◌∷◌, ◌++◌, length, get_or, drop, sym, refl, ap, ◌∙◌, inl, inr, arith}
 use Rattle.std.proofs.lemmas.List.Edits.{get_or-between, length-between}
 use Rattle.std.proofs.lemmas.List.{drop_more, take-append-drop, drop-drop, length-drop, take_all}
+use Rattle.std.proofs.lemmas.List.Splits.{slice_split-cons_no, slice_split-cons_yes}
 use Rattle.std.proofs.lemmas.Bool.{cases_lt, eq-eqb, le-leb, lt-leb, ne_eqb}
-use Rattle.std.specs.List.{between}
-use Rattle.parts.specs.Parts.{Part, before, left, parts}
+use Rattle.std.specs.List.{between, onto_first}
+use Rattle.parts.specs.Parts.{IsPart, Placed, left, parts, placed}
 
 -- the byte does not stand in the text
 abbrev pub Lacks : ℕ → List ℕ → Type 0
@@ -12,18 +13,18 @@ Lacks b [] = Unit {0}
 Lacks b (x ∷ w) = (eqb x b ≡ false) × Lacks b w
 
 pub parts_first : (b : ℕ) (u v : List ℕ) → Lacks b u → parts b (u ++ b ∷ v) ≡ u ∷ parts b v
-parts_first b [] v h = ap (λ t. before t b (parts b v)) (eq-eqb b b refl)
-parts_first b (x ∷ u) v h = ap (λ t. before t x (parts b (u ++ b ∷ v))) h.0 ∙ ap (before false x) (parts_first b u v h.1)
+parts_first b [] v h = slice_split-cons_yes (λ x. eqb x b) b v (eq-eqb b b refl)
+parts_first b (x ∷ u) v h = slice_split-cons_no (λ y. eqb y b) x (u ++ b ∷ v) h.0 ∙ ap (onto_first x) (parts_first b u v h.1)
 
 pub parts_last : (b : ℕ) (u : List ℕ) → Lacks b u → parts b u ≡ u ∷ []
 parts_last b [] h = refl
-parts_last b (x ∷ u) h = ap (λ t. before t x (parts b u)) h.0 ∙ ap (before false x) (parts_last b u h.1)
+parts_last b (x ∷ u) h = slice_split-cons_no (λ y. eqb y b) x u h.0 ∙ ap (onto_first x) (parts_last b u h.1)
 
 lacks_from : (b : ℕ) (u : List ℕ) → ((k : ℕ) → k < length u → get_or u k 0 ≡ b → ⊥) → Lacks b u
 lacks_from b [] h = tt
 lacks_from b (x ∷ u) h = (ne_eqb x b (h 0 (omega arith)), lacks_from b u (λ k l. h (suc k) (omega arith)))
 
-module _ (b : ℕ) (w : List ℕ) (i e : ℕ) (p : Part b w i e) where
+module _ (b : ℕ) (w : List ℕ) (i e : ℕ) (p : IsPart b w i e) where
   pub lacks-part : Lacks b (between i e w)
   lacks-part = lacks_from b (between i e w) (λ k lt eq.
       let small : i + k < e = omega (arith, length-between w i e p.within, p.from) in
@@ -50,6 +51,13 @@ module _ (b : ℕ) (w : List ℕ) (i e : ℕ) (p : Part b w i e) where
         | inl l ↦ here ∙ parts_cut l ∙ ap (λ t. between i e w ∷ cond t (parts b (drop (e + 1) w)) []) (sym (le-leb (e + 1) (length w) (omega arith)))
         | inr l ↦ here ∙ parts-rest l ∙ ap (λ t. between i e w ∷ cond t (parts b (drop (e + 1) w)) []) (sym (lt-leb (e + 1) (length w) (omega arith)))
       ]
+
+  -- the same, each with its place
+  pub placed_cut : placed i (left b w i) ≡ record { at = i; bytes = between i e w } ∷ placed (e + 1) (left b w (e + 1))
+  placed_cut =
+      let place : i + length (between i e w) + 1 ≡ e + 1 = omega (arith, length-between w i e p.within, p.from) in
+      let first : Placed = record { at = i; bytes = between i e w } in
+      ap (placed i) left_cut ∙ ap (λ x. first ∷ placed x (left b w (e + 1))) place
 
 pub left_all : (b : ℕ) (w : List ℕ) → left b w 0 ≡ parts b w
 left_all b w = ap (λ t. cond t (parts b w) []) (le-leb 0 (length w) (omega arith))

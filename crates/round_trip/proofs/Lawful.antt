@@ -1,13 +1,13 @@
 -- What the entries of a chapter keep makes its page lawful.
-use Rattle.std.proofs.Common.{◌≡◌, ℕ, ◌<◌, ◌≤◌, Bool, true, ◌&&◌, ltb, leb, List, [], ◌∷◌, map, length, Some, vec_len, sym, ap, ◌∙◌, subst, arith}
+use Rattle.std.proofs.Common.{◌≡◌, ℕ, suc, ◌+◌, ◌<◌, ◌≤◌, Bool, true, ◌&&◌, ltb, leb, List, [], ◌∷◌, map, length, get_or, Some, vec_len, sym, ap, ◌∙◌, subst, arith, length-take}
 use mathlib.Core.List.{map-map}
 use lib.ListN.{length-map}
-use Rattle.std.proofs.lemmas.List.{length-take-le, map-id}
+use Rattle.std.proofs.lemmas.List.{map-id}
 use Rattle.std.proofs.lemmas.Int.{ints}
 use Rattle.std.proofs.lemmas.Bool.{and_parts, leb-true, ltb-true}
 use Rattle.std.specs.List.{AllByRecursion}
 use Rattle.entry.specs.Bodies.{items_of}
-use Rattle.entry.specs.Lists.{every}
+use Rattle.std.specs.List.{list_all}
 use Rattle.entry.specs.Rules.{links_of, motifs_of, net_from, ranges_of}
 use Rattle.entry.specs.declared.body.Body.{Body}
 use Rattle.entry.specs.declared.mark.Mark.{Mark}
@@ -25,28 +25,32 @@ use Rattle.writing.specs.Motifs.{LawfulMotif}
 use Rattle.writing.specs.Rules.{LawfulLink, LawfulRule}
 use Rattle.round_trip.specs.Laws.{LawfulMark, LawfulPage}
 
-pub body-lawful : (b : Body) → length b.items ≡ 16 → AllByRecursion Lawful (map entry_of (items_of b)) → LawfulBody (entries_of (Some b))
-body-lawful b n a =
-    let few : b.len ≤ 16 = b.few in
-    let some : 1 ≤ b.len = b.some in
-    let long : length (items_of b) ≡ b.len = length-take-le b.len b.items (omega arith) in
+-- codes, each of which fits
+pub codes-fit : (cs : List ℕ) → ((k : ℕ) → get_or cs k 0 ≤ 65535) → Codes cs
+codes-fit [] h = tt
+codes-fit (c ∷ cs) h = (h 0, codes-fit cs (λ k. h (suc k)))
+
+pub body-lawful : (b : Body) → AllByRecursion Lawful (map entry_of (items_of b)) → LawfulBody (entries_of (Some b))
+body-lawful b a =
+    let few : length (items_of b) ≤ 16 = omega (arith, length-take b.items.len b.items.kept, b.items.few) in
+    let some : 1 ≤ length (items_of b) = b.some in
     let same : length (map entry_of (items_of b)) ≡ length (items_of b) = length-map (items_of b) entry_of in
     (omega arith, omega arith, a)
 
 -- what follows from a test of every entry
-by_test : {X Y : Type 0} (test : X → Bool) (P : Y → Type 0) (f : X → Y) → ((x : X) → test x ≡ true → P (f x)) → (xs : List X) → every test xs ≡ true → AllByRecursion P (map f xs)
+by_test : {X Y : Type 0} (test : X → Bool) (P : Y → Type 0) (f : X → Y) → ((x : X) → test x ≡ true → P (f x)) → (xs : List X) → list_all test xs ≡ true → AllByRecursion P (map f xs)
 by_test test P f so [] h = tt
-by_test test P f so (x ∷ xs) h = let k = and_parts (test x) (every test xs) h in (so x k.0, by_test test P f so xs k.1)
+by_test test P f so (x ∷ xs) h = let k = and_parts (test x) (list_all test xs) h in (so x k.0, by_test test P f so xs k.1)
 
 module _ (count : ℕ) where
   link-lawful : (g : Range) (k : ℕ) → k < count → LawfulLink count (record { range = record { low = g.low; high = g.high }; motif = k })
   link-lawful g k h = record { lows = (g.least, omega (arith, ints, g.ordered, g.most)); highs = (omega (arith, ints, g.least, g.ordered), g.most); ordered = g.ordered; known = h }
 
-  links-lawful : (ms : List ℕ) (gs : List Range) → every (λ k. ltb k count) ms ≡ true → AllByRecursion (LawfulLink count) (links_of ms gs)
+  links-lawful : (ms : List ℕ) (gs : List Range) → list_all (λ k. ltb k count) ms ≡ true → AllByRecursion (LawfulLink count) (links_of ms gs)
   links-lawful [] gs h = tt
   links-lawful (m ∷ ms) [] h = tt
   links-lawful (m ∷ ms) (g ∷ gs) h =
-      let k = and_parts (ltb m count) (every (λ k. ltb k count) ms) h in
+      let k = and_parts (ltb m count) (list_all (λ k. ltb k count) ms) h in
       (link-lawful g m (ltb-true m count k.0), links-lawful ms gs k.1)
 
   links-few : (ms : List ℕ) (gs : List Range) → length (links_of ms gs) ≤ length ms
@@ -54,13 +58,13 @@ module _ (count : ℕ) where
   links-few (m ∷ ms) [] = omega arith
   links-few (m ∷ ms) (g ∷ gs) = omega (arith, links-few ms gs)
 
-  first-known : (ms : List ℕ) (gs : List Range) → 0 < length ms → every (λ k. ltb k count) ms ≡ true → (net_from ms gs).first < count
+  first-known : (ms : List ℕ) (gs : List Range) → 0 < length ms → list_all (λ k. ltb k count) ms ≡ true → (net_from ms gs).first < count
   first-known [] gs n h = absurd (omega arith)
-  first-known (m ∷ ms) gs n h = ltb-true m count (and_parts (ltb m count) (every (λ k. ltb k count) ms) h).0
+  first-known (m ∷ ms) gs n h = ltb-true m count (and_parts (ltb m count) (list_all (λ k. ltb k count) ms) h).0
 
-  rest-lawful : (ms : List ℕ) (gs : List Range) → every (λ k. ltb k count) ms ≡ true → AllByRecursion (LawfulLink count) (net_from ms gs).rest
+  rest-lawful : (ms : List ℕ) (gs : List Range) → list_all (λ k. ltb k count) ms ≡ true → AllByRecursion (LawfulLink count) (net_from ms gs).rest
   rest-lawful [] gs h = tt
-  rest-lawful (m ∷ ms) gs h = links-lawful ms gs (and_parts (ltb m count) (every (λ k. ltb k count) ms) h).1
+  rest-lawful (m ∷ ms) gs h = links-lawful ms gs (and_parts (ltb m count) (list_all (λ k. ltb k count) ms) h).1
 
   rest-few : (ms : List ℕ) (gs : List Range) → length ms ≤ 12 → length (net_from ms gs).rest ≤ 11
   rest-few [] gs h = omega arith
@@ -68,10 +72,8 @@ module _ (count : ℕ) where
 
   rule-lawful : (r : Rule) → known count r ≡ true → LawfulRule count (rule_entry r)
   rule-lawful r h =
-      let few : r.len ≤ 12 = r.few in
-      let some : 1 ≤ r.len = r.some in
-      let room : length r.motifs ≡ 12 = r.twelve in
-      let long : length (motifs_of r) ≡ r.len = length-take-le r.len r.motifs (omega arith) in
+      let few : length (motifs_of r) ≤ 12 = omega (arith, length-take r.motifs.len r.motifs.kept, r.motifs.few) in
+      let some : length (motifs_of r) ≡ length (ranges_of r) + 1 = r.between in
       record {
         named = r.name.named;
         first = first-known (motifs_of r) (ranges_of r) (omega arith) h;

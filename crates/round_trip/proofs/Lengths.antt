@@ -4,7 +4,7 @@ use Rattle.std.proofs.lemmas.Fmt.{length-decimal-le}
 use Rattle.std.proofs.ByRecursion.{All-drop, All-get_or, All-map, All-take, All-weaker}
 use Rattle.std.proofs.lemmas.Bool.{and_parts, leb-true}
 use Rattle.std.specs.List.{AllByRecursion}
-use Rattle.entry.specs.Lists.{every}
+use Rattle.std.specs.List.{list_all}
 use Rattle.entry.specs.Names.{is_letter, is_name}
 use Rattle.text.specs.Pages.{Page, motif_names_in}
 use Rattle.writing.specs.Joined.{behind}
@@ -39,8 +39,8 @@ boxes_short p l = All-map Short boxes_line (pieces p.row) (cut-fit (length p.row
 
 name-short : (n : List ℕ) → is_name n ≡ true → length n ≤ 8
 name-short n h =
-    let k = and_parts (leb 1 (length n)) (leb (length n) 8 && every is_letter n) h in
-    leb-true (length n) 8 (and_parts (leb (length n) 8) (every is_letter n) k.1).0
+    let k = and_parts (leb 1 (length n)) (leb (length n) 8 && list_all is_letter n) h in
+    leb-true (length n) 8 (and_parts (leb (length n) 8) (list_all is_letter n) k.1).0
 
 mark-fits : (n : List ℕ) (start end : ℕ) → is_name n ≡ true → start ≤ 20000 → end ≤ 20000 → Short (mark_line n start end)
 mark-fits n start end h s e =

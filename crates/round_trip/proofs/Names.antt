@@ -5,17 +5,18 @@ use Rattle.std.proofs.lemmas.List.{map-append}
 use Rattle.std.proofs.lemmas.Bool.{and_parts, both_ways, not-true, or_from, or_parts}
 use Rattle.std.specs.List.{AllByRecursion}
 use Rattle.std.specs.Str.{bytes_eq}
-use Rattle.entry.specs.Lists.{any}
-use Rattle.book.specs.Entries.{distinct, taken}
+use Rattle.std.specs.List.{list_any}
+use Rattle.book.specs.Entries.{distinct}
+use Rattle.entry.specs.Named.{taken}
 use Rattle.writing.proofs.Numbers.{not_same}
 
 all_mid : {X : Type 0} (P : X → Type 0) (done : List X) (x : X) (rest : List X) → AllByRecursion P (done ++ x ∷ rest) → P x
 all_mid P [] x rest a = a.0
 all_mid P (d ∷ done) x rest a = all_mid P done x rest a.1
 
-any_mid : {X : Type 0} (test : X → Bool) (done : List X) (x : X) (rest : List X) → any test (done ++ x ∷ rest) ≡ false → test x ≡ false
-any_mid test [] x rest h = (or_parts (test x) (any test rest) h).0
-any_mid test (d ∷ done) x rest h = any_mid test done x rest (or_parts (test d) (any test (done ++ x ∷ rest)) h).1
+any_mid : {X : Type 0} (test : X → Bool) (done : List X) (x : X) (rest : List X) → list_any test (done ++ x ∷ rest) ≡ false → test x ≡ false
+any_mid test [] x rest h = (or_parts (test x) (list_any test rest) h).0
+any_mid test (d ∷ done) x rest h = any_mid test done x rest (or_parts (test d) (list_any test (done ++ x ∷ rest)) h).1
 
 free_mid : (done : List (List ℕ)) (n : List ℕ) (rest : List (List ℕ)) → distinct (done ++ n ∷ rest) ≡ true → taken n done ≡ false
 free_mid [] n rest d = refl

@@ -1,4 +1,4 @@
-// What every chapter keeps. Of an element of a list only its reading tells that it fits its type, so all are gone through.
+// What every chapter keeps. Of an item or a motif in a list only its reading tells that what it holds fits, so all are gone through.
 ghost use Rattle.std.specs.Prelude.{map, Some};
 ghost use Rattle.std.specs.List.{AllByRecursion};
 ghost use Rattle.body.specs.Entries.{entries_of, entry_of};
@@ -13,11 +13,7 @@ use entry::{Body, Item, Motif};
 
 fn codes_keep(codes: &[u16])
     ensures { Codes codes.now }
-{
-    for code in codes {
-        let _fits = *code;
-    }
-}
+{}
 
 fn item_keeps(item: Item)
     ensures { Lawful (entry_of item) }
@@ -46,9 +42,8 @@ fn body_keeps(body: Body)
 fn motif_keeps(motif: Motif)
     ensures { LawfulMotif (motif_entry motif) }
 {
-    match motif.body {
-        Some(body) => body_keeps(body),
-        None => {}
+    if let Some(body) = motif.body {
+        body_keeps(body);
     }
 }
 

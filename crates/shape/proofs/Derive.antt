@@ -1,7 +1,8 @@
 -- What may follow a byte: the derivative of a shape, computed, and that it is that.
-use Rattle.std.proofs.Common.{◌≡◌, ℕ, Bool, true, false, cond, ◌&&◌, ◌||◌, ◌⊎◌, List, [], ◌∷◌, ◌++◌, sym, refl, ap, ◌∙◌, subst, inl, inr, arith}
+use Rattle.std.proofs.Common.{◌≡◌, ℕ, Bool, true, false, cond, ◌&&◌, ◌||◌, ◌⊎◌, List, [], ◌∷◌, ◌++◌, sym, refl, ap, ◌∙◌, subst, inl, inr}
+use Rattle.std.proofs.lemmas.Bool.{and_from, and_parts, or_cases, or_left, or_right}
 use Rattle.shape.specs.Kinds.{kind_of}
-use Rattle.shape.specs.Follow.{may_end, seq, or_not, alt, after, same}
+use Rattle.shape.specs.Follow.{may_end, seq, or_not, alt, after, has, is_never, same}
 use Rattle.shape.specs.Shape.{Shape, never, empty, one, ◌then◌, ◌or◌, many, together, Each, Fits}
 use Rattle.shape.proofs.Same.{same_at, same-sound, sample, sample_is}
 
@@ -61,49 +62,32 @@ alt_out (many a) s w f = or_not_out (many a) s w f
 
 nil_left : (u v : List ℕ) → [] ≡ u ++ v → u ≡ []
 nil_left [] v e = refl
-nil_left (b ∷ u) v e = let z : ◌≡◌ {A = ℕ} 0 1 = cc in absurd (omega arith)
+nil_left (b ∷ u) v e = cc
 
 nil_right : (u v : List ℕ) → [] ≡ u ++ v → v ≡ []
 nil_right [] v e = sym e
-nil_right (b ∷ u) v e = let z : ◌≡◌ {A = ℕ} 0 1 = cc in absurd (omega arith)
-
-both_in : (a b : Bool) → a ≡ true → b ≡ true → (a && b) ≡ true
-both_in true b p q = q
-both_in false b p q = p
-
-both_out : (a b : Bool) → (a && b) ≡ true → (a ≡ true) × (b ≡ true)
-both_out true b p = (refl, p)
-both_out false b p = let z : ◌≡◌ {A = ℕ} 0 1 = cc in absurd (omega arith)
-
-either_in : (a b : Bool) → (a ≡ true) ⊎ (b ≡ true) → (a || b) ≡ true
-either_in true b p = refl
-either_in false b (inl p) = let z : ◌≡◌ {A = ℕ} 0 1 = cc in absurd (omega arith)
-either_in false b (inr p) = p
-
-either_out : (a b : Bool) → (a || b) ≡ true → (a ≡ true) ⊎ (b ≡ true)
-either_out true b p = inl refl
-either_out false b p = inr p
+nil_right (b ∷ u) v e = cc
 
 pub may_end_in : (r : Shape) → Fits r [] → may_end r ≡ true
 may_end_in never f = absurd f
 may_end_in empty f = refl
-may_end_in (one k) f = let z : ◌≡◌ {A = ℕ} 0 1 = cc f.1 in absurd (omega arith)
+may_end_in (one k) f = cc f.1
 may_end_in (r then s) f =
-    both_in (may_end r) (may_end s) (may_end_in r (subst (Fits r) (nil_left f.0 f.1 f.2) f.3))
+    and_from (may_end r) (may_end s) (may_end_in r (subst (Fits r) (nil_left f.0 f.1 f.2) f.3))
     (may_end_in s (subst (Fits s) (nil_right f.0 f.1 f.2) f.4))
-may_end_in (r or s) (inl f) = either_in (may_end r) (may_end s) (inl (may_end_in r f))
-may_end_in (r or s) (inr f) = either_in (may_end r) (may_end s) (inr (may_end_in s f))
+may_end_in (r or s) (inl f) = or_left (may_end r) (may_end s) (may_end_in r f)
+may_end_in (r or s) (inr f) = or_right (may_end r) (may_end s) (may_end_in s f)
 may_end_in (many r) f = refl
 
 pub may_end_out : (r : Shape) → may_end r ≡ true → Fits r []
-may_end_out never e = let z : ◌≡◌ {A = ℕ} 0 1 = cc in absurd (omega arith)
+may_end_out never e = cc
 may_end_out empty e = refl
-may_end_out (one k) e = let z : ◌≡◌ {A = ℕ} 0 1 = cc in absurd (omega arith)
+may_end_out (one k) e = cc
 may_end_out (r then s) e =
-    let h = both_out (may_end r) (may_end s) e in
+    let h = and_parts (may_end r) (may_end s) e in
     ([], [], refl, may_end_out r h.0, may_end_out s h.1)
 may_end_out (r or s) e =
-    elim (either_out (may_end r) (may_end s) e) [ inl h ↦ inl (may_end_out r h) | inr h ↦ inr (may_end_out s h) ]
+    elim (or_cases (may_end r) (may_end s) e) [ inl h ↦ inl (may_end_out r h) | inr h ↦ inr (may_end_out s h) ]
 may_end_out (many r) e = ([], refl, tt)
 
 -- a byte more
@@ -115,7 +99,7 @@ cut b w (c ∷ u) v e = inr (u, (cc), (cc))
 
 -- the first part of some that is not empty
 cut_many : (P : List ℕ → Type 0) (b : ℕ) (w : List ℕ) (us : List (List ℕ)) → b ∷ w ≡ together us → Each P us → (u : List ℕ) × (vs : List (List ℕ)) × (w ≡ u ++ together vs) × P (b ∷ u) × Each P vs
-cut_many P b w [] e h = let z : ◌≡◌ {A = ℕ} 0 1 = cc in absurd (omega arith)
+cut_many P b w [] e h = cc
 cut_many P b w (u ∷ us) e h =
     elim (cut b w u (together us) e) [
       | inl k ↦ cut_many P b w us k.1 h.1
@@ -124,7 +108,7 @@ cut_many P b w (u ∷ us) e h =
 
 cond_in : (t : Bool) (s : Shape) (w : List ℕ) → t ≡ true → Fits s w → Fits (cond t s never) w
 cond_in true s w e f = f
-cond_in false s w e f = let z : ◌≡◌ {A = ℕ} 0 1 = cc in absurd (omega arith)
+cond_in false s w e f = cc
 
 cond_out : (t : Bool) (s : Shape) (w : List ℕ) → Fits (cond t s never) w → (t ≡ true) × Fits s w
 cond_out true s w f = (refl, f)
@@ -132,7 +116,7 @@ cond_out false s w f = absurd f
 
 pub after_in : (r : Shape) (b : ℕ) (w : List ℕ) → Fits r (b ∷ w) → Fits (after (kind_of b) r) w
 after_in never b w f = absurd f
-after_in empty b w f = let z : ◌≡◌ {A = ℕ} 0 1 = cc in absurd (omega arith)
+after_in empty b w f = cc
 after_in (one k) b w f =
     let e : b ≡ f.0 = cc f.1 in
     let n : w ≡ [] = cc f.1 in
@@ -177,17 +161,29 @@ has_word (r or s) = has_word r || has_word s
 has_word (many r) = true
 
 pub word_of : (r : Shape) → has_word r ≡ true → (w : List ℕ) × Fits r w
-word_of never e = let z : ◌≡◌ {A = ℕ} 0 1 = cc in absurd (omega arith)
+word_of never e = cc
 word_of empty e = ([], refl)
 word_of (one k) e = (sample k ∷ [], (sample k, refl, sample_is k))
 word_of (r then s) e =
-    let h = both_out (has_word r) (has_word s) e in
+    let h = and_parts (has_word r) (has_word s) e in
     let a = word_of r h.0 in
     let b = word_of s h.1 in
     (a.0 ++ b.0, (a.0, b.0, refl, a.1, b.1))
 word_of (r or s) e =
-    elim (either_out (has_word r) (has_word s) e) [
+    elim (or_cases (has_word r) (has_word s) e) [
       | inl h ↦ (let a = word_of r h in (a.0, inl a.1))
       | inr h ↦ (let a = word_of s h in (a.0, inr a.1))
     ]
 word_of (many r) e = ([], ([], refl, tt))
+
+pub some_word : (s : Shape) → has_word s ≡ true → is_never s ≡ false
+some_word never e = sym e
+some_word empty e = refl
+some_word (one k) e = refl
+some_word (r then s) e = refl
+some_word (r or s) e = refl
+some_word (many r) e = refl
+
+pub never-has : (w : List ℕ) → has never w ≡ false
+never-has [] = refl
+never-has (b ∷ w) = never-has w

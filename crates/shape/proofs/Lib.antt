@@ -1,5 +1,5 @@
 pub mod Same
 pub mod Derive
 pub mod Table
-pub mod Left
 pub mod Going
+pub mod Judged

@@ -45,26 +45,29 @@ shape_or None = never
 shape_or (Some s) = shape_at s
 
 -- the table is right, each entry by computing
+abbrev Right : State → Kind → Type 0
+Right s k = shape_or (next s k) ≡ after k (shape_at s)
+
 pub next-right : (s : State) (k : Kind) → shape_or (next s k) ≡ after k (shape_at s)
-next-right NumberDue k = each_kind (λ j. shape_or (next NumberDue j) ≡ after j (shape_at NumberDue)) (refl, refl, refl, refl, refl, refl, refl, refl, refl, refl) k
-next-right InNumber k = each_kind (λ j. shape_or (next InNumber j) ≡ after j (shape_at InNumber)) (refl, refl, refl, refl, refl, refl, refl, refl, refl, refl) k
-next-right CodeDue k = each_kind (λ j. shape_or (next CodeDue j) ≡ after j (shape_at CodeDue)) (refl, refl, refl, refl, refl, refl, refl, refl, refl, refl) k
-next-right InCode k = each_kind (λ j. shape_or (next InCode j) ≡ after j (shape_at InCode)) (refl, refl, refl, refl, refl, refl, refl, refl, refl, refl) k
-next-right BodyDue k = each_kind (λ j. shape_or (next BodyDue j) ≡ after j (shape_at BodyDue)) (refl, refl, refl, refl, refl, refl, refl, refl, refl, refl) k
-next-right StarDone k = each_kind (λ j. shape_or (next StarDone j) ≡ after j (shape_at StarDone)) (refl, refl, refl, refl, refl, refl, refl, refl, refl, refl) k
-next-right ItemDue k = each_kind (λ j. shape_or (next ItemDue j) ≡ after j (shape_at ItemDue)) (refl, refl, refl, refl, refl, refl, refl, refl, refl, refl) k
-next-right InItem k = each_kind (λ j. shape_or (next InItem j) ≡ after j (shape_at InItem)) (refl, refl, refl, refl, refl, refl, refl, refl, refl, refl) k
-next-right ItemDone k = each_kind (λ j. shape_or (next ItemDone j) ≡ after j (shape_at ItemDone)) (refl, refl, refl, refl, refl, refl, refl, refl, refl, refl) k
-next-right ClassDue k = each_kind (λ j. shape_or (next ClassDue j) ≡ after j (shape_at ClassDue)) (refl, refl, refl, refl, refl, refl, refl, refl, refl, refl) k
-next-right InClass k = each_kind (λ j. shape_or (next InClass j) ≡ after j (shape_at InClass)) (refl, refl, refl, refl, refl, refl, refl, refl, refl, refl) k
-next-right NameDue k = each_kind (λ j. shape_or (next NameDue j) ≡ after j (shape_at NameDue)) (refl, refl, refl, refl, refl, refl, refl, refl, refl, refl) k
-next-right InName k = each_kind (λ j. shape_or (next InName j) ≡ after j (shape_at InName)) (refl, refl, refl, refl, refl, refl, refl, refl, refl, refl) k
-next-right LinkDue k = each_kind (λ j. shape_or (next LinkDue j) ≡ after j (shape_at LinkDue)) (refl, refl, refl, refl, refl, refl, refl, refl, refl, refl) k
-next-right LowDue k = each_kind (λ j. shape_or (next LowDue j) ≡ after j (shape_at LowDue)) (refl, refl, refl, refl, refl, refl, refl, refl, refl, refl) k
-next-right InLow k = each_kind (λ j. shape_or (next InLow j) ≡ after j (shape_at InLow)) (refl, refl, refl, refl, refl, refl, refl, refl, refl, refl) k
-next-right HighDue k = each_kind (λ j. shape_or (next HighDue j) ≡ after j (shape_at HighDue)) (refl, refl, refl, refl, refl, refl, refl, refl, refl, refl) k
-next-right InHigh k = each_kind (λ j. shape_or (next InHigh j) ≡ after j (shape_at InHigh)) (refl, refl, refl, refl, refl, refl, refl, refl, refl, refl) k
-next-right RangeDone k = each_kind (λ j. shape_or (next RangeDone j) ≡ after j (shape_at RangeDone)) (refl, refl, refl, refl, refl, refl, refl, refl, refl, refl) k
+next-right NumberDue k = each_kind (Right NumberDue) (refl, refl, refl, refl, refl, refl, refl, refl, refl, refl) k
+next-right InNumber k = each_kind (Right InNumber) (refl, refl, refl, refl, refl, refl, refl, refl, refl, refl) k
+next-right CodeDue k = each_kind (Right CodeDue) (refl, refl, refl, refl, refl, refl, refl, refl, refl, refl) k
+next-right InCode k = each_kind (Right InCode) (refl, refl, refl, refl, refl, refl, refl, refl, refl, refl) k
+next-right BodyDue k = each_kind (Right BodyDue) (refl, refl, refl, refl, refl, refl, refl, refl, refl, refl) k
+next-right StarDone k = each_kind (Right StarDone) (refl, refl, refl, refl, refl, refl, refl, refl, refl, refl) k
+next-right ItemDue k = each_kind (Right ItemDue) (refl, refl, refl, refl, refl, refl, refl, refl, refl, refl) k
+next-right InItem k = each_kind (Right InItem) (refl, refl, refl, refl, refl, refl, refl, refl, refl, refl) k
+next-right ItemDone k = each_kind (Right ItemDone) (refl, refl, refl, refl, refl, refl, refl, refl, refl, refl) k
+next-right ClassDue k = each_kind (Right ClassDue) (refl, refl, refl, refl, refl, refl, refl, refl, refl, refl) k
+next-right InClass k = each_kind (Right InClass) (refl, refl, refl, refl, refl, refl, refl, refl, refl, refl) k
+next-right NameDue k = each_kind (Right NameDue) (refl, refl, refl, refl, refl, refl, refl, refl, refl, refl) k
+next-right InName k = each_kind (Right InName) (refl, refl, refl, refl, refl, refl, refl, refl, refl, refl) k
+next-right LinkDue k = each_kind (Right LinkDue) (refl, refl, refl, refl, refl, refl, refl, refl, refl, refl) k
+next-right LowDue k = each_kind (Right LowDue) (refl, refl, refl, refl, refl, refl, refl, refl, refl, refl) k
+next-right InLow k = each_kind (Right InLow) (refl, refl, refl, refl, refl, refl, refl, refl, refl, refl) k
+next-right HighDue k = each_kind (Right HighDue) (refl, refl, refl, refl, refl, refl, refl, refl, refl, refl) k
+next-right InHigh k = each_kind (Right InHigh) (refl, refl, refl, refl, refl, refl, refl, refl, refl, refl) k
+next-right RangeDone k = each_kind (Right RangeDone) (refl, refl, refl, refl, refl, refl, refl, refl, refl, refl) k
 
 pub final-right : (s : State) → final s ≡ may_end (shape_at s)
 final-right NumberDue = refl

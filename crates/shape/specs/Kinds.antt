@@ -1,19 +1,14 @@
 -- The kinds of bytes that shapes tell apart.
-use Rattle.std.specs.Prelude.{ℕ, Bool, cond, ◌&&◌, ◌||◌, ◌==◌, nat_le}
+use Rattle.std.specs.Prelude.{ℕ, Bool, cond, ◌||◌, ◌==◌}
+use Rattle.std.specs.Char.{is_ascii_alphabetic, is_ascii_digit}
 use Rattle.shape.specs.declared.kinds.Kind.{Kind}
 use Rattle.shape.specs.declared.kinds.Kind.TheVariants.{Space, Star, Dot, Open, Shut, Less, More, Numeral, Letter, Other}
 
-abbrev pub is_digit : ℕ → Bool
-is_digit b = nat_le 48 b && nat_le b 57
-
 -- what a number word is made of: digits and minus signs
 abbrev pub is_numeral : ℕ → Bool
-is_numeral b = is_digit b || b == 45
+is_numeral b = is_ascii_digit b || b == 45
 
--- a to z, and A to Z
-abbrev pub is_any_letter : ℕ → Bool
-is_any_letter b = (nat_le 97 b && nat_le b 122) || (nat_le 65 b && nat_le b 90)
-
+-- letters are a to z, and A to Z
 abbrev pub kind_of : ℕ → Kind
 kind_of b =
     cond (b == 32) Space
@@ -24,4 +19,4 @@ kind_of b =
     (cond (b == 60) Less
     (cond (b == 62) More
     (cond (is_numeral b) Numeral
-    (cond (is_any_letter b) Letter Other))))))))
+    (cond (is_ascii_alphabetic b) Letter Other))))))))

@@ -16,19 +16,21 @@ pub enum Kind {
     Other,
 }
 
-pub(crate) fn kind_of(b: u8) -> Kind
-    ensures { result ≡ kind_of b }
-{
-    match b {
-        b' ' => Kind::Space,
-        b'*' => Kind::Star,
-        b'.' => Kind::Dot,
-        b'[' => Kind::Open,
-        b']' => Kind::Shut,
-        b'<' => Kind::Less,
-        b'>' => Kind::More,
-        b'0'..=b'9' | b'-' => Kind::Numeral,
-        b'a'..=b'z' | b'A'..=b'Z' => Kind::Letter,
-        _ => Kind::Other,
+impl From<u8> for Kind {
+    ghost from_gives = { λ b k. k ≡ kind_of b };
+
+    fn from(byte: u8) -> Kind {
+        match byte {
+            b' ' => Kind::Space,
+            b'*' => Kind::Star,
+            b'.' => Kind::Dot,
+            b'[' => Kind::Open,
+            b']' => Kind::Shut,
+            b'<' => Kind::Less,
+            b'>' => Kind::More,
+            b'0'..=b'9' | b'-' => Kind::Numeral,
+            b'a'..=b'z' | b'A'..=b'Z' => Kind::Letter,
+            _ => Kind::Other,
+        }
     }
 }

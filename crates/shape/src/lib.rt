@@ -9,11 +9,11 @@ ghost use Rattle.shape.specs.Shape.{Fits, Misshapen};
 pub mod kinds;
 pub mod states;
 
-use kinds::kind_of;
-use states::{begin, is_final, next};
+use kinds::Kind;
+use states::State;
 
 // What a field has to be.
-#[derive(Clone, Copy)]
+#[derive(Clone, Copy, PartialEq, Eq, Debug)]
 pub enum Form {
     Number,
     Codes,
@@ -26,12 +26,12 @@ pub fn shape_fault(form: Form, field: &[u8]) -> Option<usize>
     ensures value { result ≡ misfit (shape_of form) field.now }
     ensures law { MatchOption result (Fits (shape_of form) field.now) (λ p. Misshapen (shape_of form) field.now p) }
 {
-    let mut s = begin(form);
-    for (i, b) in field.iter().enumerate() {
-        match next(s, kind_of(*b)) {
-            Some(t) => s = t,
+    let mut state = State::from(form);
+    for (i, byte) in field.iter().enumerate() {
+        match state.next(Kind::from(*byte)) {
+            Some(next) => state = next,
             None => return Some(i),
         }
     }
-    if is_final(s) { None } else { Some(field.len()) }
+    (!state.is_final()).then_some(field.len())
 }

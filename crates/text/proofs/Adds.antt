@@ -1,12 +1,14 @@
 -- What is added to a chapter is added to its page.
-use Rattle.std.proofs.Common.{◌≡◌, ℕ, ◌+◌, ◌<◌, ◌≤◌, Bool, true, false, not, ltb, leb, List, [], ◌∷◌, ◌++◌, map, length, Some, None, Ok, Err, vec_items, Option, Result, sym, refl, ap, ◌∙◌, arith}
+use Rattle.std.proofs.Common.{◌≡◌, ℕ, ◌+◌, ◌<◌, ◌≤◌, Bool, true, false, not, ltb, leb, List, [], ◌∷◌, ◌++◌, map, length, Some, None, Ok, Err, is_ok, vec_items, Option, Result, sym, refl, ap, ◌∙◌, arith}
 use Rattle.std.proofs.lemmas.List.{length-map, map_push}
 use Rattle.std.proofs.lemmas.Bool.{le-ltb, lt-leb, ne_eqb, or_from}
-use Rattle.refusal.specs.Checks.{refuse}
+use Rattle.refusal.specs.Checks.{refuse, refused_by}
+use Rattle.std.specs.Prelude.{OnErr}
 use Rattle.refusal.specs.declared.Refusal.{Refusal}
 use Rattle.refusal.specs.declared.Refusal.TheVariants.{BadNumber as ByNumber, BadShape as ByShape, NameTaken as ByTaken, NoRoom as ByRoom, UnknownMotif as ByUnknown}
 use Rattle.book.specs.Adding.{motifs_in, rules_in, row_of, marks_of, boxes_fault, mark_fault, motif_fault, rule_add_fault}
-use Rattle.book.specs.Entries.{known, motif_names, rule_names, taken}
+use Rattle.book.specs.Entries.{known, motif_names, rule_names}
+use Rattle.entry.specs.Named.{taken}
 use Rattle.entry.specs.Rules.{Link, net_of}
 use Rattle.entry.specs.Named.{letters_of}
 use Rattle.book.specs.declared.values.chapter.Chapter.{Chapter}
@@ -17,8 +19,10 @@ use Rattle.body.specs.Bodies.{body_of}
 use Rattle.body.specs.Entries.{entries_of}
 use Rattle.text.specs.Pages.{MotifEntry, Page, RuleEntry, motif_entry, motif_names_in, page_of, rule_entry, rule_names_in}
 use Rattle.text.specs.Taking.{body_in, fault_in, page_or, with_mark_taken, take_mark_of, with_motif_taken, with_rule_taken, take_steps, unless_by, with_boxes, with_mark, with_motif, with_rule}
-use Rattle.text.specs.Names.{number_in}
+use Rattle.entry.specs.Named.{number_in}
+use Rattle.text.specs.Held.{steps_or}
 use Rattle.text.specs.Nets.{net_in, steps_in}
+use Rattle.text.specs.declared.steps.Steps.{Steps}
 use Rattle.text.specs.declared.faults.TextFault.{TextFault}
 use Rattle.text.specs.declared.faults.TextFault.TheVariants.{NameTaken, NoRoom, UnknownMotif}
 
@@ -56,6 +60,19 @@ pub no_room : (p q o : Page) (r : Result Page TextFault) (u : Bool) (f : Option 
 no_room p q o r true f x e g h s = kept p o r NoRoom e s
 no_room p q o r false f x e g h s = let z : ◌≡◌ {A = ℕ} 0 1 = cc in absurd (omega arith)
 
+-- the fault that a refusal to add turns into
+abbrev pub fault_by : {X : Type 0} → Result X Refusal → Option TextFault
+fault_by (Ok x) = None
+fault_by (Err e) = Some NoRoom
+
+pub settled : {X : Type 0} (p q o : Page) (t : Result Page TextFault) (u : Bool) (f : Option Refusal) (r : Result X Refusal) → t ≡ unless_by u NoRoom (Ok q) → f ≡ refuse u ByRoom None → refused_by r ≡ f → (is_ok r ≡ true → o ≡ q) → (is_ok r ≡ false → o ≡ p) → Took p t o (fault_by r)
+settled p q o t u f (Ok x) e g h fine not = room p q o t u f e g h (fine refl)
+settled p q o t u f (Err x) e g h fine not = no_room p q o t u f x e g h (not refl)
+
+pub when_err : {X E P : Type 0} (r : Result X E) → OnErr r P → is_ok r ≡ false → P
+when_err (Ok x) h e = let z : ◌≡◌ {A = ℕ} 0 1 = cc in absurd (omega arith)
+when_err (Err x) h e = h
+
 pub unchanged : (c d : Chapter) → d.book ≡ c.book → (d.row ≡ c.row) × (d.marks ≡ c.marks) → page_of d ≡ page_of c
 unchanged c d e g =
     page_is (ap (λ x. map motif_entry (motifs_in x)) e) (ap (λ x. map rule_entry (rules_in x)) e) (ap vec_items g.0) (ap vec_items g.1)
@@ -86,10 +103,10 @@ motif_taken c n w b t = ap (λ x. unless_by x NameTaken (unless_by (leb 16 (leng
 -- a rule
 
 module _ (c : Chapter) (n t : List ℕ) where
-  abbrev Steps : Result (List Link) ℕ
-  Steps = steps_in (motif_names (motifs_in c.book)) t
+  abbrev read : Result (List Link) ℕ
+  read = steps_in (motif_names (motifs_in c.book)) t
 
-  opened : (x : Bool) → taken n (rule_names (rules_in c.book)) ≡ x → with_rule_taken (page_of c) n t ≡ unless_by x NameTaken (take_steps (page_of c) n Steps)
+  opened : (x : Bool) → taken n (rule_names (rules_in c.book)) ≡ x → with_rule_taken (page_of c) n t ≡ unless_by x NameTaken (take_steps (page_of c) n read)
   opened x h = ap (λ ns. unless_by (taken n ns) NameTaken (take_steps (page_of c) n (steps_in (motif_names_in (page_of c)) t))) (rule_names_lem c) ∙ ap (λ y. unless_by y NameTaken (take_steps (page_of c) n (steps_in (motif_names_in (page_of c)) t))) h ∙ ap (λ ns. unless_by x NameTaken (take_steps (page_of c) n (steps_in ns t))) (motif_names_lem c)
 
   pub rule_taken : taken n (rule_names (rules_in c.book)) ≡ true → with_rule_taken (page_of c) n t ≡ Err NameTaken
@@ -100,6 +117,15 @@ module _ (c : Chapter) (n t : List ℕ) where
 
   pub rule-left : (ls : List Link) → taken n (rule_names (rules_in c.book)) ≡ false → Ok ls ≡ steps_in (motif_names (motifs_in c.book)) t → with_rule_taken (page_of c) n t ≡ unless_by (leb 8 (length (rules_in c.book))) NoRoom (Ok (with_rule (page_of c) (record { name = n; net = net_in ls })))
   rule-left ls h e = opened false h ∙ sym (ap (take_steps (page_of c) n) e) ∙ ap (λ x. unless_by (leb 8 x) NoRoom (Ok (with_rule (page_of c) (record { name = n; net = net_in ls })))) (length-map (rules_in c.book) rule_entry)
+
+-- a name that is no motif's, by its place in the line
+abbrev pub unknown_at : {X : Type 0} → ℕ → Result X ℕ → Result X TextFault
+unknown_at n (Ok x) = Ok x
+unknown_at n (Err q) = Err (UnknownMotif (n + q))
+
+pub rule_refused : (c : Chapter) (n t : List ℕ) (r : Result Steps ℕ) (f : TextFault) → taken n (rule_names (rules_in c.book)) ≡ false → steps_or r ≡ steps_in (motif_names (motifs_in c.book)) t → unknown_at (3 + length n) r ≡ Err f → with_rule_taken (page_of c) n t ≡ Err f
+rule_refused c n t (Ok s) f h e k = let z : ◌≡◌ {A = ℕ} 0 1 = cc in absurd (omega arith)
+rule_refused c n t (Err q) f h e k = let same : UnknownMotif (3 + length n + q) ≡ f = cc in rule_unknown c n t q h e ∙ ap Err same
 
 module _ (c : Chapter) (r : Rule) (n : List ℕ) (ls : List Link) (name : letters_of r.name ≡ n) (net : net_of r ≡ net_in ls) where
   entered : rule_entry r ≡ record { name = n; net = net_in ls }

@@ -2,7 +2,8 @@
 use Rattle.std.proofs.Common.{◌≡◌, ℕ, ◌+◌, ◌<◌, Bool, true, false, cond, eqb, List, [], ◌∷◌, length, Some, None, Ok, Err, Option, Result, sym, refl, ap, ◌∙◌, subst, arith}
 use Rattle.std.proofs.lemmas.Bool.{false≢true, ne_eqb}
 use Rattle.entry.specs.Rules.{Link}
-use Rattle.parts.specs.Parts.{before, parts}
+use Rattle.std.specs.List.{onto_first}
+use Rattle.parts.specs.Parts.{parts}
 use Rattle.shape.specs.Follow.{after, goes, has, misfit}
 use Rattle.shape.specs.Grammar.{net}
 use Rattle.shape.specs.Kinds.{kind_of}
@@ -13,7 +14,7 @@ use Rattle.shape.proofs.Same.{each_kind}
 use Rattle.net.specs.Tokens.{Tok, both, high_of, low_of, name, net_tokens, range, range_or, tokens}
 use Rattle.word.specs.Numbers.{number_of}
 use Rattle.word.specs.declared.limits.Limits.TheVariants.{Shift}
-use Rattle.text.specs.Names.{number_in}
+use Rattle.entry.specs.Named.{number_in}
 use Rattle.text.specs.Nets.{ahead, link_of, missing, step, steps_from, steps_in}
 
 was : (s : Shape) (w : List ℕ) → misfit s w ≡ None → has s w ≡ true
@@ -51,7 +52,7 @@ first_part b p [] e = (b ∷ p, [], refl)
 first_part b p (q ∷ ps) e =
     (b ∷ p, tokens (0 + length (b ∷ p) + 1) (q ∷ ps), ap (λ o. range_or (both o (high_of q)) (λ g. range 0 g ∷ tokens (0 + length (b ∷ p) + 1 + length q + 1) ps) (name 0 (b ∷ p) ∷ tokens (0 + length (b ∷ p) + 1) (q ∷ ps))) (low-none b p e))
 
-begun : (b : ℕ) (ps : List (List ℕ)) (t : Bool) → t ≡ false → eqb b 60 ≡ false → Named (tokens 0 (before t b ps))
+begun : (b : ℕ) (ps : List (List ℕ)) (t : Bool) → t ≡ false → eqb b 60 ≡ false → Named (tokens 0 (cond t ([] ∷ ps) (onto_first b ps)))
 begun b [] false h e = first_part b [] [] e
 begun b (p ∷ ps) false h e = first_part b p ps e
 begun b [] true h e = absurd (false≢true (sym h))

@@ -1,4 +1,3 @@
-pub mod Lookups
 pub mod Walks
 pub mod Soundness
 pub mod FirstName

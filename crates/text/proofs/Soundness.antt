@@ -2,9 +2,10 @@
 use Rattle.std.proofs.Common.{◌≡◌, ℕ, ◌+◌, ◌≤◌, Bool, true, false, cond, not, eqb, leb, List, [], ◌∷◌, length, drop, ℤ, pos, Some, None, Option, refl, arith}
 use Rattle.std.proofs.lemmas.Int.{ints}
 use Rattle.std.proofs.lemmas.List.{length-drop}
+use Rattle.std.specs.List.{onto_first}
 use Rattle.refusal.specs.Checks.{refuse, refused_by}
 use Rattle.entry.specs.Names.{is_name}
-use Rattle.parts.specs.Parts.{before, left, parts, tally}
+use Rattle.parts.specs.Parts.{left, parts, tally}
 use Rattle.shape.specs.Follow.{misfit}
 use Rattle.shape.specs.Grammar.{shape_of}
 use Rattle.shape.specs.declared.Form.TheVariants.{Number, Body, Net}
@@ -65,14 +66,14 @@ longer : (n m : ℕ) (ps : List (List ℕ)) → n ≤ m → ShortParts n ps → 
 longer n m [] h s = tt
 longer n m (p ∷ ps) h s = (omega (arith, s.0), longer n m ps h s.1)
 
-short-before : (t : Bool) (x n : ℕ) (ps : List (List ℕ)) → ShortParts n ps → ShortParts (n + 1) (before t x ps)
+short-before : (t : Bool) (x n : ℕ) (ps : List (List ℕ)) → ShortParts n ps → ShortParts (n + 1) (cond t ([] ∷ ps) (onto_first x ps))
 short-before true x n ps s = (omega arith, longer n (n + 1) ps (omega arith) s)
 short-before false x n [] s = (omega arith, tt)
 short-before false x n (p ∷ ps) s = (omega (arith, s.0), longer n (n + 1) ps (omega arith) s.1)
 
 short-parts : (b : ℕ) (w : List ℕ) (n : ℕ) → length w ≤ n → ShortParts n (parts b w)
 short-parts b [] n h = (omega arith, tt)
-short-parts b (x ∷ w) n h = longer (length w + 1) n (before (eqb x b) x (parts b w)) (omega arith) (short-before (eqb x b) x (length w) (parts b w) (short-parts b w (length w) (omega arith)))
+short-parts b (x ∷ w) n h = longer (length w + 1) n (parts b (x ∷ w)) (omega arith) (short-before (eqb x b) x (length w) (parts b w) (short-parts b w (length w) (omega arith)))
 
 short-left : (t : Bool) (w : List ℕ) (n : ℕ) → length w ≤ n → ShortParts n (cond t (parts 44 w) [])
 short-left true w n h = short-parts 44 w n h

@@ -3,8 +3,8 @@ use Rattle.std.specs.Prelude.{ℕ}
 use Rattle.refusal.specs.declared.Refusal.{Refusal}
 use Rattle.refusal.specs.declared.Refusal.TheVariants.{TooLong, NameTaken as ByTaken, UnknownMotif as ByUnknown, NoRoom as ByRoom}
 use Rattle.line.specs.Faults.{line_layer, line_place, line_refusal}
-use Rattle.line.specs.declared.faults.Layer.{Layer}
-use Rattle.line.specs.declared.faults.Layer.TheVariants.{InText}
+use Rattle.refusal.specs.declared.layer.Layer.{Layer}
+use Rattle.refusal.specs.declared.layer.Layer.TheVariants.{Text as InText}
 use Rattle.text.specs.declared.faults.TextFault.{TextFault}
 use Rattle.text.specs.declared.faults.TextFault.TheVariants.{JobTooLong, LineTooLong, Line, NameTaken, UnknownMotif, NoRoom}
 

@@ -1,19 +1,16 @@
--- What the arrays of a reader hold.
-use Rattle.std.specs.Prelude.{ℕ, List, take, Ok, Err, Result}
+-- What a reader of a line holds.
+use Rattle.std.specs.Prelude.{ℕ, List, Ok, Err, Result}
+use Rattle.few.specs.Few.{entries}
 use Rattle.entry.specs.Rules.{Link, links_of}
 use Rattle.entry.specs.declared.range.Range.{Range}
 use Rattle.net.specs.declared.Bounds.{Bounds}
-use Rattle.text.specs.declared.kept.Codes.{Codes}
-use Rattle.text.specs.declared.kept.Steps.{Steps}
-
-abbrev pub codes_held : Codes → List ℕ
-codes_held c = take c.len c.codes
+use Rattle.text.specs.declared.steps.Steps.{Steps}
 
 abbrev pub motifs_held : Steps → List ℕ
-motifs_held s = take s.len s.motifs
+motifs_held s = entries s.motifs
 
 abbrev pub steps_held : Steps → List Link
-steps_held s = links_of (motifs_held s) (take s.len s.ranges)
+steps_held s = links_of (motifs_held s) (entries s.ranges)
 
 abbrev pub steps_or : Result Steps ℕ → Result (List Link) ℕ
 steps_or (Ok s) = Ok (steps_held s)

@@ -1,5 +1,4 @@
 pub mod Pages
-pub mod Names
 pub mod Nets
 pub mod Faults
 pub mod Taking

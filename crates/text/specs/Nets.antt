@@ -5,7 +5,7 @@ use Rattle.entry.specs.Faults.{range_fault}
 use Rattle.entry.specs.Rules.{Link, Net}
 use Rattle.net.specs.Tokens.{Tok, name, net_tokens, range}
 use Rattle.net.specs.declared.Bounds.{Bounds}
-use Rattle.text.specs.Names.{number_in}
+use Rattle.entry.specs.Named.{number_in}
 
 -- a missing range is 0 to 0
 abbrev pub missing : Bounds

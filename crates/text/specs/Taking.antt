@@ -1,6 +1,7 @@
 -- A page with one line more, or the fault for which the line is not taken.
-use Rattle.std.specs.Prelude.{ℕ, ◌+◌, Bool, cond, List, [], ◌∷◌, ◌++◌, map, length, Some, None, Ok, Err, Option, Result, nat_le, nat_lt}
-use Rattle.book.specs.Entries.{taken}
+use Rattle.std.specs.Prelude.{◌≡◌, ℕ, ◌+◌, Bool, cond, List, [], ◌∷◌, ◌++◌, map, length, Some, None, Ok, Err, Option, Result, nat_le, nat_lt}
+use Rattle.refusal.specs.Checks.{refused_by}
+use Rattle.entry.specs.Named.{taken}
 use Rattle.entry.specs.Rules.{Link}
 use Rattle.parts.specs.Parts.{parts}
 use Rattle.word.specs.Numbers.{code_of}
@@ -9,7 +10,7 @@ use Rattle.body.specs.Entries.{Entry}
 use Rattle.line.specs.Lines.{line_fault}
 use Rattle.line.specs.Said.{Says, nothing, motif, rule, boxes, mark, line_says}
 use Rattle.line.specs.declared.faults.LineFault.{LineFault}
-use Rattle.text.specs.Names.{number_in}
+use Rattle.entry.specs.Named.{number_in}
 use Rattle.text.specs.Nets.{net_in, steps_in}
 use Rattle.text.specs.Pages.{MotifEntry, Page, RuleEntry, motif_names_in, rule_names_in}
 use Rattle.text.specs.declared.faults.TextFault.{TextFault}
@@ -84,3 +85,8 @@ fault_in (Err e) = Some e
 abbrev pub page_or : Page → Result Page TextFault → Page
 page_or p (Ok q) = q
 page_or p (Err e) = p
+
+-- `Takes said before after r`  the answer refuses by the fault of what was to be taken, or by none, and the page after is the one that it leaves
+pub record Takes (said : Result Page TextFault) (before after : Page) (r : Result (Unit {0}) TextFault) : Type 0 where
+  pub refused : refused_by r ≡ fault_in said
+  pub page : after ≡ page_or before said

@@ -2,11 +2,11 @@ ghost use Rattle.std.specs.Prelude.{◌≡◌};
 ghost use Rattle.text.specs.declared.faults.TextFault.TheVariants.{Line};
 ghost use Rattle.text.specs.Faults.{text_layer, text_place, text_refusal};
 
-use line::{Layer, LineFault};
-use refusal::Refusal;
+use line::LineFault;
+use refusal::{Layer, Refusal};
 
 // What is wrong with a text, at one of its lines.
-#[derive(Clone, Copy)]
+#[derive(Clone, Copy, PartialEq, Eq, Debug)]
 pub enum TextFault {
     // The job has over 60,000 bytes.
     JobTooLong,
@@ -30,26 +30,28 @@ impl From<LineFault> for TextFault {
     }
 }
 
-impl TextFault {
-    pub fn refusal(self) -> Refusal
-        ensures { result ≡ text_refusal self }
-    {
-        match self {
+impl From<TextFault> for Refusal {
+    ghost from_gives = { λ e r. r ≡ text_refusal e };
+
+    fn from(fault: TextFault) -> Refusal {
+        match fault {
             TextFault::JobTooLong => Refusal::TooLong,
             TextFault::LineTooLong => Refusal::TooLong,
-            TextFault::Line(fault) => fault.refusal(),
+            TextFault::Line(fault) => Refusal::from(fault),
             TextFault::NameTaken => Refusal::NameTaken,
             TextFault::UnknownMotif(_) => Refusal::UnknownMotif,
             TextFault::NoRoom => Refusal::NoRoom,
         }
     }
+}
 
+impl TextFault {
     pub fn layer(self) -> Layer
         ensures { result ≡ text_layer self }
     {
         match self {
             TextFault::Line(fault) => fault.layer(),
-            _ => Layer::InText,
+            _ => Layer::Text,
         }
     }
 

@@ -2,8 +2,7 @@
 #![tactic(auto)]
 
 pub mod faults;
-pub mod kept;
-mod names;
+pub mod steps;
 mod takes;
 mod values;
 

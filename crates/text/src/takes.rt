@@ -8,15 +8,14 @@ ghost use Rattle.text.specs.Held.{motifs_held, steps_held};
 ghost use Rattle.text.specs.Nets.{net_in};
 ghost use Rattle.text.specs.Pages.{page_of};
 ghost use Rattle.text.specs.Sound.{SoundRule};
-ghost use Rattle.text.specs.Taking.{fault_in, page_or, with_boxes_taken, with_line_taken, with_mark_taken, with_motif_taken, with_rule_taken};
+ghost use Rattle.text.specs.Taking.{Takes, with_boxes_taken, with_line_taken, with_mark_taken, with_motif_taken, with_rule_taken};
 
 use crate::faults::TextFault;
-use crate::kept::Steps;
-use crate::names::{is_taken, number_named};
+use crate::steps::Steps;
 use crate::values::{read_codes, read_steps};
 use body::read_body;
 use book::Chapter;
-use entry::{Mark, Motif, Name, Rule};
+use entry::{Mark, Motif, Name, Rule, is_taken, number_named};
 use line::{Line, read_line};
 
 // The bytes of a line, at most.
@@ -25,8 +24,7 @@ const LONGEST: usize = 200;
 fn take_motif(chapter: &mut Chapter, name: &[u8], weight: u16, body: &[u8]) -> Result<(), TextFault>
     requires named { is_name name.now ≡ true }
     requires few { refused_by (body_of body.now) ≡ None }
-    ensures refused { refused_by result ≡ fault_in (with_motif_taken (page_of chapter.old) name.now weight body.now) }
-    ensures page { page_of chapter.new ≡ page_or (page_of chapter.old) (with_motif_taken (page_of chapter.old) name.now weight body.now) }
+    ensures { Takes (with_motif_taken (page_of chapter.old) name.now weight body.now) (page_of chapter.old) (page_of chapter.new) result }
 {
     if is_taken(chapter.book.motifs(), name) {
         return Err(TextFault::NameTaken);
@@ -37,32 +35,26 @@ fn take_motif(chapter: &mut Chapter, name: &[u8], weight: u16, body: &[u8]) -> R
     let Ok(body) = read_body(body) else {
         unreachable()
     };
-    match chapter.add_motif(Motif { name, weight, body }) {
-        Ok(()) => Ok(()),
-        Err(_) => Err(TextFault::NoRoom),
-    }
+    chapter
+        .add_motif(Motif { name, weight, body })
+        .map_err(|_| TextFault::NoRoom)
 }
 
 fn make_rule(name: Name, steps: Steps) -> Rule
-    requires { 0 < steps.len }
+    requires { 0 < length (motifs_held steps) }
     ensures name { result.name ≡ name }
     ensures motifs { motifs_of result ≡ motifs_held steps }
     ensures net { net_of result ≡ net_in (steps_held steps) }
 {
-    match Rule::new(
-        name,
-        &steps.motifs[0..steps.len],
-        &steps.ranges[1..steps.len],
-    ) {
-        Ok(rule) => rule,
-        Err(_) => unreachable(),
-    }
+    let Ok(rule) = Rule::new(name, steps.motifs.as_slice(), &steps.ranges.as_slice()[1..]) else {
+        unreachable()
+    };
+    rule
 }
 
 fn take_rule(chapter: &mut Chapter, name: &[u8], net: &[u8]) -> Result<(), TextFault>
     requires { SoundRule 198 name.now net.now }
-    ensures refused { refused_by result ≡ fault_in (with_rule_taken (page_of chapter.old) name.now net.now) }
-    ensures page { page_of chapter.new ≡ page_or (page_of chapter.old) (with_rule_taken (page_of chapter.old) name.now net.now) }
+    ensures { Takes (with_rule_taken (page_of chapter.old) name.now net.now) (page_of chapter.old) (page_of chapter.new) result }
 {
     if is_taken(chapter.book.rules(), name) {
         return Err(TextFault::NameTaken);
@@ -71,49 +63,44 @@ fn take_rule(chapter: &mut Chapter, name: &[u8], net: &[u8]) -> Result<(), TextF
     let Ok(name) = Name::new(name) else {
         unreachable()
     };
-    match read_steps(chapter.book.motifs(), net) {
-        Err(at) => Err(TextFault::UnknownMotif(net_from + at)),
-        Ok(steps) => match chapter.add_rule(make_rule(name, steps)) {
-            Ok(()) => Ok(()),
-            Err(_) => Err(TextFault::NoRoom),
-        },
-    }
+    let steps = read_steps(chapter.book.motifs(), net).map_err(|at| TextFault::UnknownMotif(
+        net_from + at,
+    ))?;
+    chapter
+        .add_rule(make_rule(name, steps))
+        .map_err(|_| TextFault::NoRoom)
 }
 
 fn take_boxes(chapter: &mut Chapter, field: &[u8]) -> Result<(), TextFault>
     requires { length field.now ≤ 198 }
-    ensures refused { refused_by result ≡ fault_in (with_boxes_taken (page_of chapter.old) field.now) }
-    ensures page { page_of chapter.new ≡ page_or (page_of chapter.old) (with_boxes_taken (page_of chapter.old) field.now) }
+    ensures { Takes (with_boxes_taken (page_of chapter.old) field.now) (page_of chapter.old) (page_of chapter.new) result }
 {
     let codes = read_codes(field);
-    match chapter.add_boxes(&codes.codes[0..codes.len]) {
-        Ok(()) => Ok(()),
-        Err(_) => Err(TextFault::NoRoom),
-    }
+    chapter
+        .add_boxes(codes.as_slice())
+        .map_err(|_| TextFault::NoRoom)
 }
 
 fn take_mark(chapter: &mut Chapter, name: &[u8], start: usize, end: usize) -> Result<(), TextFault>
     requires { (start ≤ 20000) × (end ≤ 20000) }
-    ensures refused { refused_by result ≡ fault_in (with_mark_taken (page_of chapter.old) name.now start end) }
-    ensures page { page_of chapter.new ≡ page_or (page_of chapter.old) (with_mark_taken (page_of chapter.old) name.now start end) }
+    ensures { Takes (with_mark_taken (page_of chapter.old) name.now start end) (page_of chapter.old) (page_of chapter.new) result }
 {
     let Some(motif) = number_named(chapter.book.motifs(), name) else {
         return Err(TextFault::UnknownMotif(2));
     };
-    match chapter.add_mark(Mark { motif, start, end }) {
-        Ok(()) => Ok(()),
-        Err(_) => Err(TextFault::NoRoom),
-    }
+    chapter
+        .add_mark(Mark { motif, start, end })
+        .map_err(|_| TextFault::NoRoom)
 }
 
 // Takes a line that is not empty; any bytes may come.
 pub fn take_line(chapter: &mut Chapter, line: &[u8]) -> Result<(), TextFault>
-    ensures refused { refused_by result ≡ fault_in (with_line_taken (page_of chapter.old) line.now) }
-    ensures page { page_of chapter.new ≡ page_or (page_of chapter.old) (with_line_taken (page_of chapter.old) line.now) }
+    ensures { Takes (with_line_taken (page_of chapter.old) line.now) (page_of chapter.old) (page_of chapter.new) result }
 {
     if line.len() > LONGEST {
         return Err(TextFault::LineTooLong);
     }
+    // As for the kinds of lines: four for good, and each has other fields.
     match read_line(line)? {
         Line::Motif { name, weight, body } => take_motif(chapter, name, weight, body),
         Line::Rule { name, net } => take_rule(chapter, name, net),

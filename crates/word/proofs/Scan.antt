@@ -1,56 +1,71 @@
 -- Runs met one by one.
-use Rattle.std.proofs.Common.{◌≡◌, ℕ, ◌+◌, ◌<◌, ◌≤◌, Bool, true, false, cond, not, ◌&&◌, ◌⊎◌, List, [], ◌∷◌, ◌++◌, length, get_or, drop, Some, Option, sym, refl, ap, ◌∙◌, inl, inr, append_assoc}
-use Rattle.std.proofs.lemmas.List.{append-nil, at_drop_more, at_drop_all}
-use Rattle.std.proofs.lemmas.List.Edits.{between_more, between_none}
-use Rattle.std.proofs.lemmas.Bool.{and_left, and_right, not_from_true}
-use Rattle.std.specs.List.{between}
+use Rattle.std.proofs.Common.{◌≡◌, ℕ, ◌+◌, ◌<◌, ◌≤◌, Bool, true, false, not, ◌&&◌, ◌⊎◌, eqb, List, [], ◌∷◌, length, get_or, drop, Some, None, Option, sym, refl, ap, ◌∙◌, inl, inr, arith}
+use Rattle.std.proofs.lemmas.List.{at_drop_all, at_drop_more}
+use Rattle.std.proofs.lemmas.List.Splits.{length-slice_split}
+use Rattle.std.proofs.lemmas.Bool.{and_left, and_right, cond_both, eqb-false, not_from_true}
+use Rattle.std.specs.List.{onto_first}
 use Rattle.refusal.specs.Checks.{refuse}
-use Rattle.word.specs.Runs.{fault_from, front}
+use Rattle.word.specs.Runs.{Sort, fault_from, first_fault_of, runs}
 
-module _ (part : ℕ → Bool) (w : List ℕ) where
-  -- the run from i on: what was passed, and what is left of it
-  abbrev pub Passed : ℕ → ℕ → Type 0
-  Passed i e = between i e w ++ front part (drop e w) ≡ front part (drop i w)
+-- the bytes of the runs, with one behind each
+abbrev long : List (List ℕ) → ℕ
+long [] = 0
+long (r ∷ rs) = length r + 1 + long rs
 
-  pub passed-more : (i e : ℕ) → i ≤ e → e < length w → part (get_or w e 0) ≡ true → Passed i e → Passed i (e + 1)
-  passed-more i e h l p so =
-      ap (λ x. x ++ front part (drop (e + 1) w)) (between_more w i e 0 h l) ∙ append_assoc (between i e w) (get_or w e 0 ∷ []) (front part (drop (e + 1) w)) ∙ ap (λ x. between i e w ++ x) (sym (at_drop_more (front part) w e 0 l ∙ ap (λ t. cond t (get_or w e 0 ∷ front part (drop (e + 1) w)) []) p)) ∙ so
+long-onto : (b : ℕ) (rs : List (List ℕ)) → 0 < length rs → long (onto_first b rs) ≡ long rs + 1
+long-onto b [] h = absurd (omega arith)
+long-onto b (r ∷ rs) h = omega arith
 
-  pub passed_stop : (i e : ℕ) → e < length w → part (get_or w e 0) ≡ false → Passed i e → between i e w ≡ front part (drop i w)
-  passed_stop i e l p so =
-      sym (append-nil (between i e w)) ∙ ap (λ x. between i e w ++ x) (sym (at_drop_more (front part) w e 0 l ∙ ap (λ t. cond t (get_or w e 0 ∷ front part (drop (e + 1) w)) []) p)) ∙ so
+long-runs : (part : ℕ → Bool) (w : List ℕ) → long (runs part w) ≡ length w + 1
+long-runs part [] = refl
+long-runs part (b ∷ w) =
+    let rs = runs part w in
+    cond_both (not (part b)) ([] ∷ rs) (onto_first b rs) (λ x. long x ≡ length (b ∷ w) + 1)
+    (λ e. omega (arith, long-runs part w))
+    (λ e. omega (arith, long-runs part w, long-onto b rs (omega (arith, length-slice_split (λ c. not (part c)) w))))
 
-  pub passed-end : (i e : ℕ) → length w ≤ e → Passed i e → between i e w ≡ front part (drop i w)
-  passed-end i e l so = sym (append-nil (between i e w)) ∙ ap (λ x. between i e w ++ x) (sym (at_drop_all (front part) w e l)) ∙ so
+module _ (s : Sort) (w : List ℕ) where
+  -- the k-th run begins at `from`, and those before it are sound
+  pub record Walked (k from : ℕ) : Type 0 where
+    pub found : fault_from s.sound from (drop k (runs s.part w)) ≡ first_fault_of s.part s.sound w
+    pub room : from + long (drop k (runs s.part w)) ≡ length w + 1
 
-  pub passed_none : (i : ℕ) → Passed i i
-  passed_none i = ap (λ x. x ++ front part (drop i w)) (between_none w i)
+  pub walked_none : Walked 0 0
+  walked_none = record { found = refl; room = omega (arith, long-runs s.part w) }
 
--- one byte more: a run that begins there has to be sound
-module _ (part : ℕ → Bool) (sound : List ℕ → Bool) (w : List ℕ) (i : ℕ) (inside : Bool) where
-  abbrev Left : Bool → Bool → Option ℕ
-  Left p t = refuse ((p && not inside) && not t) i (fault_from part sound (i + 1) p (drop (i + 1) w))
+  pub walked_all : (k from : ℕ) → length (runs s.part w) ≤ k → Walked k from → None ≡ first_fault_of s.part s.sound w
+  walked_all k from h so = sym (at_drop_all (fault_from s.sound from) (runs s.part w) k h) ∙ so.found
 
-  seen : i < length w → (p t : Bool) → p ≡ part (get_or w i 0) → t ≡ sound (front part (drop i w)) → Left p t ≡ fault_from part sound i inside (drop i w)
-  seen h p t e f =
-      ap (λ x. Left x t) e ∙ ap (Left (part (get_or w i 0))) (f ∙ at_drop_more (λ x. sound (front part x)) w i 0 h) ∙ sym (at_drop_more (fault_from part sound i inside) w i 0 h)
+  -- where the k-th run is r
+  module _ (k from : ℕ) (so : Walked k from) (r : List ℕ) (h : (k < length (runs s.part w)) × (r ≡ get_or (runs s.part w) k r)) where
+    abbrev rest : List (List ℕ)
+    rest = drop (k + 1) (runs s.part w)
 
-  pub fault-here : i < length w → true ≡ part (get_or w i 0) → inside ≡ false → false ≡ sound (front part (drop i w)) → Some i ≡ fault_from part sound i inside (drop i w)
-  fault-here h e o f = ap (λ x. refuse ((true && not x) && not false) i (fault_from part sound (i + 1) true (drop (i + 1) w))) (sym o) ∙ seen h true false e f
+    opened : drop k (runs s.part w) ≡ r ∷ rest
+    opened = at_drop_more (λ x. x) (runs s.part w) k r h.0 ∙ ap (λ x. x ∷ rest) (sym h.1)
 
-  pub fault_on : i < length w → true ≡ part (get_or w i 0) → true ≡ sound (front part (drop i w)) → fault_from part sound (i + 1) true (drop (i + 1) w) ≡ fault_from part sound i inside (drop i w)
-  fault_on h e f = passes inside ∙ seen h true true e f
-    where
-      passes : (o : Bool) → fault_from part sound (i + 1) true (drop (i + 1) w) ≡ refuse ((true && not o) && not true) i (fault_from part sound (i + 1) true (drop (i + 1) w))
-      passes true = refl
-      passes false = refl
+    abbrev On : Bool → Option ℕ
+    On t = refuse t from (fault_from s.sound (from + length r + 1) rest)
 
-  -- a byte of another sort, or one inside a run
-  pub fault_past : i < length w → (p : Bool) → p ≡ part (get_or w i 0) → (p && not inside) ≡ false → fault_from part sound (i + 1) p (drop (i + 1) w) ≡ fault_from part sound i inside (drop i w)
-  fault_past h p e o =
-      let t = sound (front part (drop i w)) in
-      sym (ap (λ x. refuse (x && not t) i (fault_from part sound (i + 1) p (drop (i + 1) w))) o) ∙ seen h p t e refl
+    found : On (not (eqb (length r) 0) && not (s.sound r)) ≡ first_fault_of s.part s.sound w
+    found = sym (ap (fault_from s.sound from) opened) ∙ so.found
 
-pub none-begins : (p o : Bool) → ((p ≡ true) × (o ≡ true)) ⊎ (p ≡ false) → (p && not o) ≡ false
-none-begins p o (inl h) = and_right p (not o) (not_from_true o h.1)
-none-begins p o (inr h) = and_left p (not o) h
+    pub ends : from + (length r + 1) + long rest ≡ length w + 1
+    ends = omega (arith, so.room, ap long opened)
+
+    pub fault_within : eqb (length r) 0 ≡ false → from < length w
+    fault_within e = let some : length r ≡ 0 → ⊥ = eqb-false (length r) 0 e in omega (arith, ends)
+
+    pub fault_here : eqb (length r) 0 ≡ false → s.sound r ≡ false → Some from ≡ first_fault_of s.part s.sound w
+    fault_here e f = ap (λ t. On (not t && not false)) (sym e) ∙ ap (λ t. On (not (eqb (length r) 0) && not t)) (sym f) ∙ found
+
+    pub walked_more : (n to : ℕ) → n ≡ k + 1 → to ≡ from + (length r + 1) → (eqb (length r) 0 ≡ true) ⊎ (s.sound r ≡ true) → Walked n to
+    walked_more n to e g p =
+        let passes : (not (eqb (length r) 0) && not (s.sound r)) ≡ false = elim p [
+          | inl z ↦ and_left (not (eqb (length r) 0)) (not (s.sound r)) (not_from_true (eqb (length r) 0) z)
+          | inr t ↦ and_right (not (eqb (length r) 0)) (not (s.sound r)) (not_from_true (s.sound r) t)
+        ] in
+        record {
+          found = ap (λ i. fault_from s.sound to (drop i (runs s.part w))) e ∙ ap (λ a. fault_from s.sound a rest) (omega arith) ∙ ap On (sym passes) ∙ found;
+          room = omega (arith, ends, ap (λ i. long (drop i (runs s.part w))) e);
+        }

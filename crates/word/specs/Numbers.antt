@@ -1,7 +1,10 @@
 -- Number words: what number one writes, and the limits that it has to keep.
-use Rattle.std.specs.Prelude.{ℕ, ◌+◌, ◌-◌, ◌*◌, Bool, false, cond, ◌&&◌, List, [], ◌∷◌, length, ℤ, pos, negsuc, neg_ℤ, is_some, Some, None, Option, ◌==◌, int_le, nat_le, unsigned_abs}
-use Rattle.entry.specs.Lists.{every}
-use Rattle.shape.specs.Kinds.{is_digit}
+use Rattle.std.specs.Prelude.{ℕ, Bool, false, cond, ◌&&◌, ◌||◌, List, [], ◌∷◌, length, ℤ, pos, negsuc, neg_ℤ, is_some, None, Option, ◌==◌, int_le, nat_le, slice_index, unsigned_abs}
+use Rattle.std.specs.Int.{is_in_range}
+use Rattle.std.specs.Bool.{then_some}
+use Rattle.std.specs.Option.{option_and_then, option_map, option_map_or}
+use Rattle.std.specs.Str.{all_ascii_digits}
+use Rattle.std.specs.Str.Parse.{digits_value}
 use Rattle.word.specs.declared.limits.Limits.{Limits}
 use Rattle.word.specs.declared.limits.Limits.TheVariants.{Code, Shift, Place}
 
@@ -10,28 +13,20 @@ abbrev pub leads : List ℕ → Bool
 leads [] = false
 leads (b ∷ bs) = nat_le 49 b
 
--- `decimal n ds`   the number that the digits write, n being what the digits before them write
-abbrev pub decimal : ℕ → List ℕ → ℕ
-decimal n [] = n
-decimal n (b ∷ bs) = decimal (n * 10 + (b - 48)) bs
+-- `begins_well w`  w is 0, or begins with a digit that is no zero behind at most one minus
+abbrev pub begins_well : List ℕ → Bool
+begins_well [] = false
+begins_well (b ∷ bs) = (b == 48 && length bs == 0) || (is_in_range 49 57 b || (b == 45 && is_in_range 49 57 (slice_index bs 0)))
 
 -- `plain ds`       the number of one or more digits without a leading zero
 abbrev pub plain : List ℕ → Option ℕ
-plain ds = cond (leads ds && every is_digit ds) (Some (decimal 0 ds)) None
-
-abbrev pub plus : Option ℕ → Option ℤ
-plus None = None
-plus (Some n) = Some (pos n)
-
-abbrev pub minus : Option ℕ → Option ℤ
-minus None = None
-minus (Some n) = Some (neg_ℤ (pos n))
+plain ds = then_some (leads ds && all_ascii_digits ds) (digits_value 10 ds)
 
 -- `written w`      the number that a word writes: 0, or digits without a leading zero and at most one minus before them
 abbrev pub written : List ℕ → Option ℤ
 written [] = None
 written (b ∷ bs) =
-    cond (b == 48) (cond (length bs == 0) (Some (pos 0)) None) (cond (b == 45) (minus (plain bs)) (plus (plain (b ∷ bs))))
+    cond (b == 48) (then_some (length bs == 0) (pos 0)) (cond (b == 45) (option_map (λ n. neg_ℤ (pos n)) (plain bs)) (option_map pos (plain (b ∷ bs))))
 
 abbrev pub lowest : Limits → ℤ
 lowest Code = pos 0
@@ -43,10 +38,9 @@ highest Code = pos 65535
 highest Shift = pos 2000
 highest Place = pos 20000
 
--- `kept low high v`  the number, if there is one from low to high
+-- `kept low high o`  the number, if there is one from low to high
 abbrev pub kept : ℤ → ℤ → Option ℤ → Option ℤ
-kept low high None = None
-kept low high (Some v) = cond (int_le low v && int_le v high) (Some v) None
+kept low high o = option_and_then (λ v. then_some (int_le low v && int_le v high) v) o
 
 -- `number_of m w`   the number of a word that is well formed and keeps its limits
 abbrev pub number_of : Limits → List ℕ → Option ℤ
@@ -57,8 +51,7 @@ is_number m w = is_some (number_of m w)
 
 -- `counted o`      a number as a count, 0 where there is none
 abbrev pub counted : Option ℤ → ℕ
-counted None = 0
-counted (Some v) = unsigned_abs v
+counted o = option_map_or unsigned_abs o 0
 
 -- `code_of w`       the code that a word is; 0 where it is none, which no line keeps that is taken
 abbrev pub code_of : List ℕ → ℕ

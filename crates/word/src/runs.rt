@@ -1,110 +1,36 @@
 // Longest runs of bytes of one sort, met from left to right.
-ghost use Rattle.std.specs.Prelude.{◌≡◌, ℕ, ◌<◌, ◌≤◌, Bool, true, List, length, drop, IfSome, slice_index};
-ghost use Rattle.entry.specs.Names.{is_name};
-ghost use Rattle.shape.specs.Kinds.{is_any_letter, is_numeral};
-ghost use Rattle.std.specs.List.{between};
+ghost use Rattle.std.specs.Prelude.{◌≡◌, ℕ, ◌<◌, Bool, not, List, length, IfSome};
+ghost use Rattle.std.specs.Fn.{FnReturnsAt};
+ghost use Rattle.std.specs.Iterator.{ActsAsAt};
 ghost use Rattle.word.specs.Longest.{RunsLaw};
-ghost use Rattle.word.specs.Numbers.{is_number};
-ghost use Rattle.word.specs.Runs.{first_fault_of, front};
+ghost use Rattle.word.specs.Runs.{Sort, first_fault_of};
 
-use crate::limits::Limits;
-use crate::numbers::read_number;
-use entry::Name;
-
-// A sort of bytes, and which runs of them are sound.
-pub(crate) trait Sort {
-    ghost part: { Self → ℕ → Bool };
-
-    ghost sound: { Self → List ℕ → Bool };
-
-    fn is_part(&self, byte: u8) -> bool
-        ensures { result ≡ part self.now byte };
-
-    fn is_sound(&self, run: &[u8]) -> bool
-        ensures { result ≡ sound self.now run.now };
-}
-
-// The end of the run that begins at `from`.
-fn run_end<S: Sort>(sort: &S, field: &[u8], from: usize) -> usize
-    requires inside { from < length field.now }
-    requires begun { S.Sort.part sort.now (slice_index field.now from) ≡ true }
-    ensures begins { from ≤ result }
-    ensures within { result ≤ length field.now }
-    ensures run { between from result field.now ≡ front (S.Sort.part sort.now) (drop from field.now) }
-{
-    let mut end = from + 1;
-    while end < field.len() && sort.is_part(field[end]) {
-        end += 1;
-    }
-    end
-}
-
-// The place of the first run that is not sound.
-pub(crate) fn first_fault<S: Sort>(sort: &S, field: &[u8]) -> Option<usize>
+// The place of the first run that is not sound, where the runs stand between gaps.
+pub(crate) fn first_fault<G: Fn(&u8) -> bool, S: Fn(&[u8]) -> bool>(
+    field: &[u8],
+    is_gap: G,
+    is_sound: S,
+) -> Option<usize>
+    ghost sort: { Sort }
+    requires gap_callable { (f : _) (a : _) → G.FnMut.pre f a }
+    requires sound_callable { S.IsAlwaysCallable is_sound }
+    requires gap { ActsAsAt G.FnMut is_gap (λ b. not (sort.part b)) }
+    requires sound { (run : List ℕ) (t : Bool) → FnReturnsAt S.Fn is_sound run t → t ≡ sort.sound run }
     ensures within { IfSome result (λ q. q < length field.now) }
-    ensures value { result ≡ first_fault_of (S.Sort.part sort.now) (S.Sort.sound sort.now) field.now }
+    ensures value { result ≡ first_fault_of sort.part sort.sound field.now }
 {
-    let mut inside = false;
-    for (i, b) in field.iter().enumerate() {
-        let part = sort.is_part(*b);
-        if part && !inside {
-            let end = run_end(sort, field, i);
-            if !sort.is_sound(&field[i..end]) {
-                return Some(i);
-            }
+    // Summed up as it goes: `split` gives the runs, but not their places.
+    let mut from = 0;
+    for run in field.split(is_gap) {
+        if !run.is_empty() && !is_sound(run) {
+            return Some(from);
         }
-        inside = part;
+        from += run.len() + 1;
     }
     None
 }
 
-// Runs of letters, which have to be names.
-#[derive(Drop)]
-pub(crate) struct LetterRuns {}
-
-impl Sort for LetterRuns {
-    ghost part = { λ _ b. is_any_letter b };
-
-    ghost sound = { λ _ w. is_name w };
-
-    fn is_part(&self, byte: u8) -> bool {
-        match byte {
-            b'a'..=b'z' | b'A'..=b'Z' => true,
-            _ => false,
-        }
-    }
-
-    fn is_sound(&self, run: &[u8]) -> bool {
-        Name::new(run).is_ok()
-    }
-}
-
-// Runs of digits and minus signs, which have to be numbers within limits.
-#[derive(Drop)]
-pub(crate) struct NumberWords {
-    pub(crate) limits: Limits,
-}
-
-impl Sort for NumberWords {
-    ghost part = { λ _ b. is_numeral b };
-
-    ghost sound = { λ s w. is_number s.limits w };
-
-    fn is_part(&self, byte: u8) -> bool {
-        match byte {
-            b'0'..=b'9' | b'-' => true,
-            _ => false,
-        }
-    }
-
-    fn is_sound(&self, run: &[u8]) -> bool {
-        read_number(run, self.limits).is_some()
-    }
-}
-
 // The first fault is that of the first longest run that is not sound, and there is none where all of them are.
-pub fn runs_stand() -> u8
+pub fn runs_stand()
     ensures { RunsLaw }
-{
-    0
-}
+{}

@@ -1,20 +1,20 @@
 -- No written line has a byte 10.
-use Rattle.std.proofs.Common.{◌≡◌, ℕ, ◌+◌, ◌≤◌, Bool, true, false, cond, eqb, List, [], ◌∷◌, ◌++◌, length, pos, Some, None, Option, refl, ap, ◌∙◌, arith}
+use Rattle.std.proofs.Common.{◌≡◌, ℕ, ◌+◌, ◌≤◌, Bool, true, false, cond, eqb, List, [], ◌∷◌, ◌++◌, length, pos, Some, None, Option, sym, refl, ap, ◌∙◌, arith}
 use Rattle.std.specs.List.{AllByRecursion}
 use Rattle.entry.specs.Names.{is_name}
 use Rattle.parts.specs.Parts.{parts, tally}
 use Rattle.parts.proofs.Cuts.{Lacks, parts_first}
+use Rattle.parts.proofs.Tallies.{tally-cons}
 use Rattle.word.specs.declared.limits.Limits.TheVariants.{Code, Place}
-use Rattle.body.specs.Entries.{Entry}
 use Rattle.text.specs.Pages.{MotifEntry, RuleEntry}
-use Rattle.writing.specs.Bodies.{LawfulBody, body_text}
+use Rattle.writing.specs.Bodies.{body_text}
 use Rattle.writing.specs.Breaks.{Whole, ended}
 use Rattle.writing.specs.Lines.{Codes, boxes_line, codes_field, line_of, mark_line}
 use Rattle.writing.specs.Motifs.{LawfulMotif, motif_line}
 use Rattle.writing.specs.Rules.{LawfulNames, LawfulRule, net_field, rule_line}
 use Rattle.writing.specs.Numerals.{word_of}
 use Rattle.writing.proofs.Bytes.{lacks-tally}
-use Rattle.writing.proofs.Items.{Foreign, body-lacks, codes_lack}
+use Rattle.writing.proofs.Items.{Foreign, codes_lack, text_lacks}
 use Rattle.writing.proofs.Laws.{lacks}
 use Rattle.writing.proofs.Lines.{code_keeps, name-lacks, place_keeps}
 use Rattle.writing.proofs.Parting.{joined-lacks}
@@ -26,7 +26,7 @@ picked c x w false e rest h = (e, rest (omega arith))
 
 tally-lacks : (c : ℕ) (w : List ℕ) → tally c w ≡ 0 → Lacks c w
 tally-lacks c [] h = tt
-tally-lacks c (x ∷ w) h = picked c x w (eqb x c) refl (tally-lacks c w) h
+tally-lacks c (x ∷ w) h = picked c x w (eqb x c) refl (tally-lacks c w) (sym (tally-cons c x w) ∙ h)
 
 pub lines_parted : (ls : List (List ℕ)) → AllByRecursion Whole ls → parts 10 (ended ls) ≡ ls ++ [] ∷ []
 lines_parted [] a = refl
@@ -46,14 +46,9 @@ pub mark_whole : (name : List ℕ) (start end : ℕ) → is_name name ≡ true �
 mark_whole name start end n s e =
     line-whole 115 name (word_of (pos start) ∷ word_of (pos end) ∷ []) refl (name-lacks 10 name refl n) (lacks 10 refl Place (pos start) (place_keeps start s), (lacks 10 refl Place (pos end) (place_keeps end e), tt))
 
-body-whole : (b : Option (List Entry)) → LawfulBody b → Lacks 10 (body_text b)
-body-whole None l = (refl, tt)
-body-whole (Some []) l = tt
-body-whole (Some (e ∷ es)) l = body-lacks 10 foreign e es l.2
-
 pub motif_whole : (m : MotifEntry) → LawfulMotif m → Whole (motif_line m)
 motif_whole m l =
-    line-whole 109 m.name (word_of (pos m.weight) ∷ body_text m.body ∷ []) refl (name-lacks 10 m.name refl l.named) (lacks 10 refl Code (pos m.weight) (code_keeps m.weight l.weighs), (body-whole m.body l.body, tt))
+    line-whole 109 m.name (word_of (pos m.weight) ∷ body_text m.body ∷ []) refl (name-lacks 10 m.name refl l.named) (lacks 10 refl Code (pos m.weight) (code_keeps m.weight l.weighs), (text_lacks 10 foreign refl m.body l.body, tt))
 
 pub rule_whole : (names : List (List ℕ)) (r : RuleEntry) → LawfulNames names → LawfulRule (length names) r → Whole (rule_line names r)
 rule_whole names r n h =

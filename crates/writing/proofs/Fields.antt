@@ -5,6 +5,7 @@ use Rattle.std.specs.List.{AllByRecursion}
 use Rattle.refusal.specs.Checks.{refuse}
 use Rattle.parts.specs.Parts.{parts, tally}
 use Rattle.parts.proofs.Cuts.{Lacks}
+use Rattle.parts.proofs.Tallies.{tally-cons}
 use Rattle.line.specs.Fields.{commas_of, fields, letter_kind, placed}
 use Rattle.line.specs.Lines.{fields_fault, kind_fault, line_fault}
 use Rattle.line.specs.Said.{line_says, says_by}
@@ -19,7 +20,9 @@ module _ (a : ℕ) (f : List ℕ) (fs : List (List ℕ)) (h : Lacks 44 f) (k : A
   its_fields = ap (λ t. placed 2 (cond t (parts 44 (f ++ behind 44 fs)) [])) (le-leb 2 (length (line_of a (f ∷ fs))) (omega arith)) ∙ ap (placed 2) (parted 44 f fs h k)
 
   its_commas : eqb a 44 ≡ false → tally 44 (line_of a (f ∷ fs)) ≡ length (f ∷ fs)
-  its_commas e = ap (λ t. (tally 44 (f ++ behind 44 fs) + 1) + cond t 1 0) e ∙ omega (arith, joined-tally 44 f fs h k)
+  its_commas e =
+      let rest = f ++ behind 44 fs in
+      tally-cons 44 a (44 ∷ rest) ∙ ap (λ n. n + cond (eqb a 44) 1 0) (tally-cons 44 44 rest) ∙ ap (λ t. (tally 44 (f ++ behind 44 fs) + 1) + cond t 1 0) e ∙ omega (arith, joined-tally 44 f fs h k)
 
   module _ (kind : Kind) (is : letter_kind a ≡ Some kind) where
     pub line-fault : eqb a 44 ≡ false → length (f ∷ fs) ≡ commas_of kind → line_fault (line_of a (f ∷ fs)) ≡ fields_fault kind (placed 2 (f ∷ fs))

@@ -149,8 +149,14 @@ module _ (b : ℕ) (o : Foreign b) where
   items_lack [] a = tt
   items_lack (e ∷ es) a = (item-lacks e a.0, items_lack es a.1)
 
-  pub body-lacks : (e : Entry) (es : List Entry) → AllByRecursion Lawful (e ∷ es) → Lacks b (body_text (Some (e ∷ es)))
+  body-lacks : (e : Entry) (es : List Entry) → AllByRecursion Lawful (e ∷ es) → Lacks b (body_text (Some (e ∷ es)))
   body-lacks e es a = joined-lacks b 32 o.space (item_text e) (map item_text es) (item-lacks e a.0) (items_lack es a.1)
+
+-- nor in what stands where there is no body
+pub text_lacks : (b : ℕ) → Foreign b → eqb 42 b ≡ false → (x : Option (List Entry)) → LawfulBody x → Lacks b (body_text x)
+text_lacks b o star None l = (star, tt)
+text_lacks b o star (Some []) l = tt
+text_lacks b o star (Some (e ∷ es)) l = body-lacks b o e es l.2
 
 pub body_back : (b : Option (List Entry)) → LawfulBody b → body_of (body_text b) ≡ Ok b
 body_back None l = refl

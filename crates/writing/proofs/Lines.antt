@@ -5,7 +5,7 @@ use Rattle.std.proofs.lemmas.Int.{ints}
 use Rattle.std.proofs.lemmas.Bool.{and_parts, le-ltb, lt-leb}
 use Rattle.std.specs.List.{AllByRecursion}
 use Rattle.refusal.specs.Checks.{refuse}
-use Rattle.entry.specs.Lists.{every}
+use Rattle.std.specs.List.{list_all}
 use Rattle.entry.specs.Names.{is_letter, is_name}
 use Rattle.shape.specs.Kinds.{is_numeral}
 use Rattle.parts.proofs.Cuts.{Lacks}
@@ -83,8 +83,8 @@ one-sound m z k = ap (first_fault_of is_numeral (is_number m)) (sym (append-nil 
 
 pub name-lacks : (c : ℕ) (name : List ℕ) → is_letter c ≡ false → is_name name ≡ true → Lacks c name
 name-lacks c name o n =
-    let k = and_parts (leb 1 (length name)) (leb (length name) 8 && every is_letter name) n in
-    every-lacks is_letter c name o (and_parts (leb (length name) 8) (every is_letter name) k.1).1
+    let k = and_parts (leb 1 (length name)) (leb (length name) 8 && list_all is_letter name) n in
+    every-lacks is_letter c name o (and_parts (leb (length name) 8) (list_all is_letter name) k.1).1
 
 module _ (name : List ℕ) (start end : ℕ) (n : is_name name ≡ true) (s : start ≤ 20000) (e : end ≤ 20000) where
   mark-none : (i j k : ℕ) → mark_fault (record { at = i; bytes = name }) (record { at = j; bytes = word_of (pos start) }) (record { at = k; bytes = word_of (pos end) }) ≡ None

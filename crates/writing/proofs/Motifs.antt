@@ -1,5 +1,5 @@
 -- Lines of motifs are read back.
-use Rattle.std.proofs.Common.{◌≡◌, ℕ, ◌+◌, not, List, [], ◌∷◌, length, pos, Some, None, Ok, Option, refl, ap, ◌∙◌}
+use Rattle.std.proofs.Common.{◌≡◌, ℕ, ◌+◌, not, [], ◌∷◌, length, pos, None, Ok, refl, ap, ◌∙◌}
 use Rattle.std.proofs.lemmas.Bool.{le-ltb, lt-leb}
 use Rattle.std.specs.List.{AllByRecursion}
 use Rattle.refusal.specs.Checks.{refuse, refused_by}
@@ -7,7 +7,6 @@ use Rattle.parts.proofs.Cuts.{Lacks}
 use Rattle.word.specs.Faults.{raised}
 use Rattle.word.specs.declared.limits.Limits.TheVariants.{Code}
 use Rattle.word.specs.declared.faults.WordFault.TheVariants.{BadName, BadNumber}
-use Rattle.body.specs.Entries.{Entry}
 use Rattle.line.specs.Lines.{◌else◌, in_word, line_fault, motif_fault}
 use Rattle.line.specs.Said.{line_says, motif}
 use Rattle.line.specs.declared.kinds.Kind.TheVariants.{Motif}
@@ -15,19 +14,14 @@ use Rattle.line.specs.declared.faults.LineFault.TheVariants.{BadShape, TooMany}
 use Rattle.text.specs.Pages.{MotifEntry}
 use Rattle.text.specs.Taking.{body_in, take_judged, unless_by, with_motif}
 use Rattle.text.specs.declared.faults.TextFault.TheVariants.{LineTooLong, NameTaken, NoRoom}
-use Rattle.writing.specs.Bodies.{LawfulBody, body_text}
+use Rattle.writing.specs.Bodies.{body_text}
 use Rattle.writing.specs.Motifs.{LawfulMotif, MotifRead, MotifTaken, motif_line}
 use Rattle.writing.specs.Numerals.{word_of}
 use Rattle.writing.proofs.Bodies.{body_shaped, body_sound}
 use Rattle.writing.proofs.Fields.{line-fault, line-says}
-use Rattle.writing.proofs.Items.{body_back, body-lacks}
+use Rattle.writing.proofs.Items.{body_back, text_lacks}
 use Rattle.writing.proofs.Laws.{lacks, shaped}
 use Rattle.writing.proofs.Lines.{code-back, code_keeps, name-lacks, one-sound}
-
-comma_body : (b : Option (List Entry)) → LawfulBody b → Lacks 44 (body_text b)
-comma_body None l = (refl, tt)
-comma_body (Some []) l = tt
-comma_body (Some (e ∷ es)) l = body-lacks 44 (record { numeral = refl; space = refl; dot = refl; opening = refl; shutting = refl }) e es l.2
 
 module _ (m : MotifEntry) (l : LawfulMotif m) where
   motif-none : (i j k : ℕ) → motif_fault (record { at = i; bytes = m.name }) (record { at = j; bytes = word_of (pos m.weight) }) (record { at = k; bytes = body_text m.body }) ≡ None
@@ -39,7 +33,7 @@ module _ (m : MotifEntry) (l : LawfulMotif m) where
   comma_name = name-lacks 44 m.name refl l.named
 
   comma_rest : AllByRecursion (Lacks 44) (word_of (pos m.weight) ∷ body_text m.body ∷ [])
-  comma_rest = (lacks 44 refl Code (pos m.weight) (code_keeps m.weight l.weighs), (comma_body m.body l.body, tt))
+  comma_rest = (lacks 44 refl Code (pos m.weight) (code_keeps m.weight l.weighs), (text_lacks 44 (record { numeral = refl; space = refl; dot = refl; opening = refl; shutting = refl }) refl m.body l.body, tt))
 
   pub motif_read : MotifRead m
   motif_read = record {

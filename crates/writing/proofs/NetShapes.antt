@@ -1,8 +1,8 @@
 -- A written net has its shape.
 use Rattle.std.proofs.Common.{◌≡◌, ℕ, true, cond, ◌&&◌, leb, List, [], ◌∷◌, ◌++◌, map, length, None, refl, ap, ◌∙◌, append_assoc, arith}
-use Rattle.std.proofs.lemmas.Bool.{and_parts, leb-true, or_left}
+use Rattle.std.proofs.lemmas.Bool.{and_parts, leb-true, or_right}
 use Rattle.std.specs.List.{AllByRecursion}
-use Rattle.entry.specs.Lists.{every}
+use Rattle.std.specs.List.{list_all}
 use Rattle.entry.specs.Names.{is_letter, is_name}
 use Rattle.shape.specs.declared.kinds.Kind.TheVariants.{Space, Star, Dot, Open, Shut, Less, More, Numeral, Letter, Other}
 use Rattle.shape.specs.Follow.{after, has, misfit}
@@ -28,15 +28,15 @@ kind_letter b h i =
     (cond (other is_letter b 60 h refl i) Less
     (cond (other is_letter b 62 h refl i) More
     (cond (letter-other b h i) Numeral
-    (cond (or_left (is_letter b) (leb 65 b && leb b 90) h i) Letter Other))))))))
+    (cond (or_right (leb 65 b && leb b 90) (is_letter b) h i) Letter Other))))))))
 
 turn : (s t : Shape) (b : ℕ) (w : List ℕ) → is_letter b ≡ true → after Letter s ≡ t → has s (b ∷ w) ≡ has t w
 turn s t b w h e = ap (λ k. has (after k s) w) (kind_letter b h) ∙ ap (λ x. has x w) e
 
-letters : (s : Shape) (w v : List ℕ) → after Letter s ≡ s → every is_letter w ≡ true → has s (w ++ v) ≡ has s v
+letters : (s : Shape) (w v : List ℕ) → after Letter s ≡ s → list_all is_letter w ≡ true → has s (w ++ v) ≡ has s v
 letters s [] v e h = refl
 letters s (b ∷ w) v e h =
-    let k = and_parts (is_letter b) (every is_letter w) h in
+    let k = and_parts (is_letter b) (list_all is_letter w) h in
     turn s s b (w ++ v) k.0 e ∙ letters s w v e k.1
 
 abbrev links : Shape
@@ -61,8 +61,8 @@ name-fits : (n v : List ℕ) → is_name n ≡ true → has net (n ++ v) ≡ has
 name-fits [] v h = let z = leb-true 1 0 (and_parts (leb 1 0) (leb 0 8 && true) h).0 in absurd (omega arith)
 name-fits (b ∷ w) v h =
     let n = b ∷ w in
-    let k = and_parts (leb 1 (length n)) (leb (length n) 8 && every is_letter n) h in
-    let l = and_parts (is_letter b) (every is_letter w) (and_parts (leb (length n) 8) (every is_letter n) k.1).1 in
+    let k = and_parts (leb 1 (length n)) (leb (length n) 8 && list_all is_letter n) h in
+    let l = and_parts (is_letter b) (list_all is_letter w) (and_parts (leb (length n) 8) (list_all is_letter n) k.1).1 in
     turn net in_name b (w ++ v) l.0 refl ∙ letters in_name w v refl l.1
 
 leg_fits : (s : Leg) (v : List ℕ) → LawfulLeg s → has in_name (32 ∷ (leg_text s ++ v)) ≡ has in_name v

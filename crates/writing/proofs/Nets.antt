@@ -1,10 +1,11 @@
 -- The numbers of a written net are sound.
 use Rattle.std.proofs.Common.{◌≡◌, ℕ, true, false, ◌&&◌, eqb, leb, List, [], ◌∷◌, ◌++◌, map, length, None, sym, refl, ap, ◌∙◌, subst, append_assoc, arith}
 use Rattle.std.proofs.lemmas.Bool.{and_parts, and_right, leb-true, lt-leb, ne_eqb, or_from}
+use Rattle.std.specs.Char.{is_ascii_digit}
 use Rattle.std.specs.List.{AllByRecursion}
-use Rattle.entry.specs.Lists.{every}
+use Rattle.std.specs.List.{list_all}
 use Rattle.entry.specs.Names.{is_letter, is_name}
-use Rattle.shape.specs.Kinds.{is_digit, is_numeral}
+use Rattle.shape.specs.Kinds.{is_numeral}
 use Rattle.word.specs.Numbers.{is_number}
 use Rattle.word.specs.Runs.{first_fault_of}
 use Rattle.word.specs.declared.limits.Limits.TheVariants.{Shift}
@@ -29,18 +30,18 @@ start v e = sounds.edge_start is_numeral (is_number Shift) v e
 pub letter-other : (b : ℕ) → is_letter b ≡ true → is_numeral b ≡ false
 letter-other b h =
     let k = leb-true 97 b (and_parts (leb 97 b) (leb b 122) h).0 in
-    or_from (is_digit b) (eqb b 45) (and_right (leb 48 b) (leb b 57) (lt-leb b 57 (omega arith))) (ne_eqb b 45 (λ e. omega arith))
+    or_from (is_ascii_digit b) (eqb b 45) (and_right (leb 48 b) (leb b 57) (lt-leb b 57 (omega arith))) (ne_eqb b 45 (λ e. omega arith))
 
-letters-start : (w v : List ℕ) → every is_letter w ≡ true → Start v → Start (w ++ v)
+letters-start : (w v : List ℕ) → list_all is_letter w ≡ true → Start v → Start (w ++ v)
 letters-start [] v h s = s
 letters-start (b ∷ w) v h s =
-    let k = and_parts (is_letter b) (every is_letter w) h in
+    let k = and_parts (is_letter b) (list_all is_letter w) h in
     start (b ∷ (w ++ v)) (byte b (w ++ v) (letter-other b k.0) (letters-start w v k.1 s))
 
 name-start : (n v : List ℕ) → is_name n ≡ true → Edge v → Start (n ++ v)
 name-start n v h e =
-    let k = and_parts (leb 1 (length n)) (leb (length n) 8 && every is_letter n) h in
-    letters-start n v (and_parts (leb (length n) 8) (every is_letter n) k.1).1 (start v e)
+    let k = and_parts (leb 1 (length n)) (leb (length n) 8 && list_all is_letter n) h in
+    letters-start n v (and_parts (leb (length n) 8) (list_all is_letter n) k.1).1 (start v e)
 
 leg_start : (s : Leg) (v : List ℕ) → LawfulLeg s → Edge v → Start (leg_text s ++ v)
 leg_start s v l e =

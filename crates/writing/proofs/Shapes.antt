@@ -1,8 +1,9 @@
 -- The shapes of written numbers.
 use Rattle.std.proofs.Common.{◌≡◌, ℕ, ◌<◌, true, cond, List, [], ◌∷◌, ◌++◌, length, Some, None, refl, ap, ◌∙◌, arith}
+use Rattle.std.specs.Char.{is_ascii_alphabetic}
 use Rattle.std.specs.List.{AllByRecursion}
 use Rattle.shape.specs.declared.kinds.Kind.TheVariants.{Space, Star, Dot, Open, Shut, Less, More, Numeral, Letter, Other}
-use Rattle.shape.specs.Kinds.{is_any_letter, is_numeral, kind_of}
+use Rattle.shape.specs.Kinds.{is_numeral, kind_of}
 use Rattle.shape.specs.Shape.{Shape, one, ◌then◌, many}
 use Rattle.shape.specs.Grammar.{codes, numeral}
 use Rattle.shape.specs.Follow.{after, goes, has, misfit}
@@ -19,7 +20,7 @@ kind_numeral b h i =
     (cond (other is_numeral b 60 h refl i) Less
     (cond (other is_numeral b 62 h refl i) More
     (cond (h i) Numeral
-    (cond (is_any_letter b) Letter Other))))))))
+    (cond (is_ascii_alphabetic b) Letter Other))))))))
 
 -- one byte of a number word, after which the shape t is left
 turn : (s t : Shape) (b : ℕ) (w : List ℕ) → is_numeral b ≡ true → after Numeral s ≡ t → has s (b ∷ w) ≡ has t w

@@ -1,59 +1,51 @@
 -- Joined words are sound where each of them is.
-use Rattle.std.proofs.Common.{◌≡◌, ℕ, ◌+◌, Bool, true, false, cond, not, ◌&&◌, List, [], ◌∷◌, ◌++◌, None, sym, refl, ap, ◌∙◌, subst, append_assoc}
+use Rattle.std.proofs.Common.{◌≡◌, ℕ, ◌+◌, Bool, true, false, not, eqb, List, [], ◌∷◌, ◌++◌, length, None, sym, refl, ap, ◌∙◌, subst, append_assoc}
 use Rattle.std.proofs.lemmas.List.{append-nil}
-use Rattle.std.proofs.lemmas.Bool.{and_parts}
+use Rattle.std.proofs.lemmas.Bool.{and_parts, and_right, not_from_true}
+use Rattle.std.proofs.lemmas.List.Splits.{slice_split-cons_no, slice_split-cons_yes}
 use Rattle.std.specs.List.{AllByRecursion}
 use Rattle.refusal.specs.Checks.{refuse}
-use Rattle.entry.specs.Lists.{every}
-use Rattle.word.specs.Runs.{fault_from, first_fault_of, front}
+use Rattle.std.specs.List.{list_all, onto_first}
+use Rattle.word.specs.Runs.{fault_from, first_fault_of, runs}
 use Rattle.writing.specs.Joined.{behind}
 
 module _ (part : ℕ → Bool) (sound : List ℕ → Bool) where
   -- a word of bytes of the sort, which is sound
   abbrev pub Good : List ℕ → Type 0
-  Good w = (every part w ≡ true) × (sound w ≡ true)
+  Good w = (list_all part w ≡ true) × (sound w ≡ true)
 
   -- a text without fault, where no byte of the sort stands before it
   abbrev pub Start : List ℕ → Type 0
-  Start v = (at : ℕ) → fault_from part sound at false v ≡ None
+  Start v = (at : ℕ) → fault_from sound at (runs part v) ≡ None
 
   -- a text without fault that goes on with no word, whatever stands before it
   pub record Edge (v : List ℕ) : Type 0 where
-    pub stops : front part v ≡ []
-    pub clean : (o : Bool) (at : ℕ) → fault_from part sound at o v ≡ None
+    pub rest : List (List ℕ)
+    pub stops : runs part v ≡ [] ∷ rest
+    pub clean : (at : ℕ) → fault_from sound at rest ≡ None
 
   pub edge_end : Edge []
-  edge_end = record { stops = refl; clean = λ o at. refl }
+  edge_end = record { rest = []; stops = refl; clean = λ at. refl }
 
   pub edge_start : (v : List ℕ) → Edge v → Start v
-  edge_start v e at = e.clean false at
+  edge_start v e at = ap (fault_from sound at) e.stops ∙ e.clean (at + 0 + 1)
 
   -- a byte of another sort
   pub edge_byte : (b : ℕ) (v : List ℕ) → part b ≡ false → Start v → Edge (b ∷ v)
-  edge_byte b v gap s = record {
-    stops = ap (λ t. cond t (b ∷ front part v) []) gap;
-    clean = λ o at. ap (λ t. refuse ((t && not o) && not (sound (front part (b ∷ v)))) at (fault_from part sound (at + 1) t v)) gap ∙ s (at + 1);
-  }
+  edge_byte b v gap s = record { rest = runs part v; stops = slice_split-cons_yes (λ c. not (part c)) b v (ap not gap); clean = s }
 
-  front-word : (w v : List ℕ) → every part w ≡ true → Edge v → front part (w ++ v) ≡ w
-  front-word [] v h e = e.stops
-  front-word (b ∷ w) v h e =
-      let k = and_parts (part b) (every part w) h in
-      ap (λ t. cond t (b ∷ front part (w ++ v)) []) k.0 ∙ ap (λ x. b ∷ x) (front-word w v k.1 e)
-
-  inside : (w v : List ℕ) → every part w ≡ true → Edge v → (at : ℕ) → fault_from part sound at true (w ++ v) ≡ None
-  inside [] v h e at = e.clean true at
-  inside (b ∷ w) v h e at =
-      let k = and_parts (part b) (every part w) h in
-      ap (λ t. refuse ((t && not true) && not (sound (front part (b ∷ (w ++ v))))) at (fault_from part sound (at + 1) t (w ++ v))) k.0 ∙ inside w v k.1 e (at + 1)
+  word-run : (w v : List ℕ) → list_all part w ≡ true → (e : Edge v) → runs part (w ++ v) ≡ w ∷ e.rest
+  word-run [] v h e = e.stops
+  word-run (b ∷ w) v h e =
+      let k = and_parts (part b) (list_all part w) h in
+      slice_split-cons_no (λ c. not (part c)) b (w ++ v) (ap not k.0) ∙ ap (onto_first b) (word-run w v k.1 e)
 
   -- a sound word
   pub start_word : (w v : List ℕ) → Good w → Edge v → Start (w ++ v)
-  start_word [] v g e at = e.clean false at
-  start_word (b ∷ w) v g e at =
-      let k = and_parts (part b) (every part w) g.0 in
-      let s : sound (front part (b ∷ (w ++ v))) ≡ true = ap sound (front-word (b ∷ w) v g.0 e) ∙ g.1 in
-      ap (λ t. refuse ((part b && not false) && not t) at (fault_from part sound (at + 1) (part b) (w ++ v))) s ∙ ap (λ t. refuse ((t && not false) && not true) at (fault_from part sound (at + 1) t (w ++ v))) k.0 ∙ inside w v k.1 e (at + 1)
+  start_word w v g e at =
+      ap (fault_from sound at) (word-run w v g.0 e)
+      ∙ ap (λ t. refuse t at (fault_from sound (at + length w + 1) e.rest)) (and_right (not (eqb (length w) 0)) (not (sound w)) (not_from_true (sound w) g.1))
+      ∙ e.clean (at + length w + 1)
 
   -- joined words, and what follows them
   module _ (gap : part 32 ≡ false) where

@@ -13,7 +13,7 @@ use Rattle.entry.specs.Rules.{Link}
 use Rattle.word.specs.declared.limits.Limits.TheVariants.{Shift}
 use Rattle.net.specs.Tokens.{backward, name, names_over, net_tokens}
 use Rattle.net.specs.declared.Bounds.{Bounds}
-use Rattle.text.specs.Names.{number_in}
+use Rattle.entry.specs.Named.{number_in}
 use Rattle.text.specs.Nets.{ahead, link_of, missing, step, steps_from, steps_in, unless}
 use Rattle.text.specs.Pages.{RuleEntry}
 use Rattle.writing.specs.Nets.{LawfulLeg, Leg, high_part, leg_tokens, low_part}

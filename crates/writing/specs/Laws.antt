@@ -1,7 +1,7 @@
 -- Laws of written numbers: what the reader makes of a number, and of numbers joined with spaces.
 use Rattle.std.specs.Prelude.{◌≡◌, ℕ, ◌<◌, true, false, List, ◌∷◌, length, ℤ, Some, None}
 use Rattle.std.specs.List.{AllByRecursion}
-use Rattle.entry.specs.Lists.{every}
+use Rattle.std.specs.List.{list_all}
 use Rattle.shape.specs.Follow.{misfit}
 use Rattle.shape.specs.Grammar.{codes, numeral}
 use Rattle.shape.specs.Kinds.{is_numeral}
@@ -23,7 +23,7 @@ NotEmpty = (m : Limits) (z : ℤ) → Keeps m z → 0 < length (word_of z)
 
 -- a word has only digits and minus signs, so no other byte stands in it
 abbrev pub Only : Type 0
-Only = (m : Limits) (z : ℤ) → Keeps m z → every is_numeral (word_of z) ≡ true
+Only = (m : Limits) (z : ℤ) → Keeps m z → list_all is_numeral (word_of z) ≡ true
 
 abbrev pub NoOther : Type 0
 NoOther = (m : Limits) (z : ℤ) (b : ℕ) → Keeps m z → is_numeral b ≡ false → tally b (word_of z) ≡ 0

@@ -4,7 +4,7 @@ use Rattle.std.specs.List.{AllByRecursion}
 use Rattle.entry.specs.Names.{is_name}
 use Rattle.line.specs.Lines.{line_fault}
 use Rattle.line.specs.Said.{boxes, line_says, mark}
-use Rattle.text.specs.Names.{number_in}
+use Rattle.entry.specs.Named.{number_in}
 use Rattle.text.specs.Pages.{Page, motif_names_in}
 use Rattle.text.specs.Taking.{codes_in, with_line_taken, with_boxes, with_mark}
 use Rattle.writing.specs.Joined.{joined}

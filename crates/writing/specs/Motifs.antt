@@ -1,7 +1,7 @@
 -- Lines of motifs as they are written, and what the reader makes of them.
 use Rattle.std.specs.Prelude.{◌≡◌, ℕ, ◌<◌, ◌≤◌, true, false, List, [], ◌∷◌, length, pos, None, Ok}
 use Rattle.entry.specs.Names.{is_name}
-use Rattle.book.specs.Entries.{taken}
+use Rattle.entry.specs.Named.{taken}
 use Rattle.line.specs.Lines.{line_fault}
 use Rattle.line.specs.Said.{line_says, motif}
 use Rattle.text.specs.Pages.{MotifEntry, Page, motif_names_in}

@@ -4,7 +4,8 @@ use Rattle.std.specs.List.{AllByRecursion}
 use Rattle.entry.specs.Names.{is_name}
 use Rattle.shape.specs.Follow.{misfit}
 use Rattle.shape.specs.Grammar.{net}
-use Rattle.shape.specs.Kinds.{is_any_letter, is_numeral}
+use Rattle.std.specs.Char.{is_ascii_alphabetic}
+use Rattle.shape.specs.Kinds.{is_numeral}
 use Rattle.word.specs.Numbers.{is_number}
 use Rattle.word.specs.Runs.{first_fault_of}
 use Rattle.word.specs.declared.limits.Limits.TheVariants.{Shift}
@@ -48,5 +49,5 @@ leg_tokens at (s ∷ ss) =
 -- the numbers of a net keep their limits, its names are names, and it has its shape
 pub record Nets : Type 0 where
   pub net_sound : (n : List ℕ) (ss : List Leg) → is_name n ≡ true → AllByRecursion LawfulLeg ss → first_fault_of is_numeral (is_number Shift) (net_text n ss) ≡ None
-  pub net_named : (n : List ℕ) (ss : List Leg) → is_name n ≡ true → AllByRecursion LawfulLeg ss → first_fault_of is_any_letter is_name (net_text n ss) ≡ None
+  pub net_named : (n : List ℕ) (ss : List Leg) → is_name n ≡ true → AllByRecursion LawfulLeg ss → first_fault_of is_ascii_alphabetic is_name (net_text n ss) ≡ None
   pub net_shaped : (n : List ℕ) (ss : List Leg) → is_name n ≡ true → AllByRecursion LawfulLeg ss → misfit net (net_text n ss) ≡ None

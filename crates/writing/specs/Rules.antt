@@ -3,7 +3,8 @@ use Rattle.std.specs.Prelude.{◌≡◌, ℕ, ◌+◌, ◌<◌, ◌≤◌, true,
 use Rattle.std.specs.List.{AllByRecursion}
 use Rattle.entry.specs.Names.{is_name}
 use Rattle.entry.specs.Rules.{Link, Net}
-use Rattle.book.specs.Entries.{distinct, taken}
+use Rattle.book.specs.Entries.{distinct}
+use Rattle.entry.specs.Named.{taken}
 use Rattle.word.specs.declared.limits.Limits.TheVariants.{Shift}
 use Rattle.line.specs.Lines.{line_fault}
 use Rattle.net.specs.Tokens.{name, net_tokens}

@@ -1,11 +1,12 @@
-use Rattle.std.proofs.Common.{◌≡◌, ◌+◌, ◌-◌, ◌≤◌, length}
-use Rattle.net.specs.Tokens.{names_over, net_tokens, tokens_from}
+use Rattle.std.proofs.Common.{◌≡◌, ◌≤◌, length}
+use Rattle.std.specs.List.{AllByRecursion}
+use Rattle.word.specs.Fields.{bytes_of}
+use Rattle.net.specs.Readers.{tokens_left}
+use Rattle.net.specs.Tokens.{names_over, net_tokens, place_of}
 use Rattle.line.proofs.checks.check_names.Given as goal
 
-abbrev pub invariant-loop-names : goal.invariant-loop-names
-invariant-loop-names l =
-    let w = l.initial.reader.field.now in
-    (l.reader.field ≡ l.initial.reader.field) × (l.reader.at ≤ length w + 1) × (l.names ≤ 12) × (names_over l.names (tokens_from w l.reader.at) ≡ names_over 0 (net_tokens w))
-
-abbrev pub decreases-loop-names : goal.decreases-loop-names
-decreases-loop-names l = length l.reader.field.now + 1 - l.reader.at
+abbrev pub invariant-loop-token : goal.invariant-loop-token
+invariant-loop-token l =
+    let w = bytes_of l.net in
+    let ts = tokens_left l.token-iterator in
+    (goal.iterator-loop-token).can_next l.token-iterator × (goal.iterator-loop-token).is_finite l.token-iterator × (l.names ≤ 12) × AllByRecursion (λ t. place_of t ≤ length w) ts × (names_over l.names ts ≡ names_over 0 (net_tokens w))

@@ -1,13 +1,11 @@
-use Rattle.std.proofs.Common.{◌≡◌, ◌+◌, ◌-◌, ◌≤◌, ◌++◌, map, length}
-use Rattle.parts.specs.Parts.{left}
+use Rattle.std.proofs.Common.{◌≡◌, ◌+◌, ◌≤◌, ◌++◌, map, length}
+use Rattle.few.specs.Few.{entries}
+use Rattle.parts.specs.Readers.{parts_left}
 use Rattle.word.specs.Numbers.{code_of}
-use Rattle.text.specs.Held.{codes_held}
 use Rattle.text.specs.Taking.{codes_in}
 use Rattle.text.proofs.values.read_codes.Given as goal
 
-abbrev pub invariant-loop-from : goal.invariant-loop-from
-invariant-loop-from l =
-    (l.from ≤ length l.field + 1) × (l.codes.len ≤ l.from) × (codes_held l.codes ++ map code_of (left 32 l.field l.from) ≡ codes_in l.field)
-
-abbrev pub decreases-loop-from : goal.decreases-loop-from
-decreases-loop-from l = length l.field + 1 - l.from
+abbrev pub invariant-loop-part : goal.invariant-loop-part
+invariant-loop-part l =
+    let ps = parts_left l.part-iterator in
+    (goal.iterator-loop-part).can_next l.part-iterator × (goal.iterator-loop-part).is_finite l.part-iterator × (length (entries l.codes) + length ps ≤ 200) × (entries l.codes ++ map (λ p. code_of p.bytes) ps ≡ codes_in l.field)

@@ -1,41 +1,36 @@
-use Rattle.std.proofs.Common.{◌≡◌, ◌+◌, Bool, drop, sym, ap, ◌∙◌}
-use Rattle.word.specs.Runs.{fault_from, front}
-use Rattle.std.specs.List.{between}
-use Rattle.std.proofs.lemmas.List.{at_drop_all}
-use Rattle.word.proofs.Scan.{fault-here, fault_on, fault_past, none-begins}
+use Rattle.std.proofs.Common.{true, false, not, length, refl, sym, inl, inr, arith}
+use Rattle.std.proofs.lemmas.List.{length_push}
+use Rattle.std.proofs.lemmas.Iterator.Consumers.{YieldsList-end, YieldsList-turn}
+use Rattle.std.proofs.lemmas.Iterator.Splits.{YieldsList-from_slice_split}
+use Rattle.word.proofs.Scan.{ends, fault_here, fault_within, walked_all, walked_more, walked_none}
 use Rattle.word.proofs.runs.first_fault.Goals as goal
+
+pub loop-run-init : goal.loop-run-init
+loop-run-init g c = walked_none g.sort c.args.field.now
+
+pub overflow_add-from-in-loop-run : goal.overflow_add-from-in-loop-run
+overflow_add-from-in-loop-run g c =
+    let t = YieldsList-turn (YieldsList-from_slice_split {s = c.into_iter-run-iterator.result} _ (λ b. not (g.sort.part b)) c.args.field.now (cc) (cc) (cc) c.requires.1.1.1.1.0) c.loop-run.yielded _ c.loop-run.yielded_by _ _ c.in-Some.run' c.in-Some.is c.next.ensures.steps in
+    omega (arith, ends g.sort c.args.field.now (length c.loop-run.yielded) c.loop-run.from c.loop-run.invariant c.in-Some.run'.now t)
+
+pub loop-run-preserved : goal.loop-run-preserved
+loop-run-preserved g c =
+    let t = YieldsList-turn (YieldsList-from_slice_split {s = c.into_iter-run-iterator.result} _ (λ b. not (g.sort.part b)) c.args.field.now (cc) (cc) (cc) c.requires.1.1.1.1.0) c.loop-run.yielded _ c.loop-run.yielded_by _ _ c.in-Some.run' c.in-Some.is c.next.ensures.steps in
+    walked_more g.sort c.args.field.now (length c.loop-run.yielded) c.loop-run.from c.loop-run.invariant c.in-Some.run'.now t _ _ (length_push c.loop-run.yielded c.in-Some.run') refl (elim c.else-not-is_empty.branch [
+      | goal.else-not-is_empty-via-then-not-is_empty+else-not-is_sound w ↦ inr (sym (c.requires.1.1.1.1.1 c.in-Some.run'.now true (record { shown = c.in-Some.run'; shows = refl; says = record { met = w.if-not-is_sound.ensures } })))
+      | goal.else-not-is_empty-via-else-not-is_empty w ↦ inl (sym w.if-not-is_empty.ensures)
+    ])
 
 pub returns-then-not-is_sound : goal.returns-then-not-is_sound
 returns-then-not-is_sound g c =
-    let part = g.S.Sort.part c.args.sort.now in
-    let sound = g.S.Sort.sound c.args.sort.now in
-    let w = c.args.field.now in
-    let i = c.loop-i.i in
-    let run : between i c.run_end-end.result w ≡ front part (drop i w) = c.run_end-end.ensures.run in
+    let t = YieldsList-turn (YieldsList-from_slice_split {s = c.into_iter-run-iterator.result} _ (λ b. not (g.sort.part b)) c.args.field.now (cc) (cc) (cc) c.requires.1.1.1.1.0) c.loop-run.yielded _ c.loop-run.yielded_by _ _ c.in-Some.run' c.in-Some.is c.next.ensures.steps in
+    let some = sym c.if-not-is_empty.ensures in
     record {
-      within = c.loop-i-test.true;
-      value = fault-here part sound w i c.loop-i.inside c.loop-i-test.true c.if-part.ensures c.if-not-inside.true (c.if-not-is_sound.ensures ∙ ap sound run) ∙ c.loop-i.invariant;
+      within = fault_within g.sort c.args.field.now (length c.loop-run.yielded) c.loop-run.from c.loop-run.invariant c.in-Some.run'.now t some;
+      value = fault_here g.sort c.args.field.now (length c.loop-run.yielded) c.loop-run.from c.loop-run.invariant c.in-Some.run'.now t some (sym (c.requires.1.1.1.1.1 c.in-Some.run'.now false (record { shown = c.in-Some.run'; shows = refl; says = record { met = c.if-not-is_sound.ensures } })));
     }
-
-pub loop-i-preserved : goal.loop-i-preserved
-loop-i-preserved g c =
-    let part = g.S.Sort.part c.args.sort.now in
-    let sound = g.S.Sort.sound c.args.sort.now in
-    let w = c.args.field.now in
-    let i = c.loop-i.i in
-    let h = c.loop-i-test.true in
-    let p = c.is_part-part.result in
-    let go = λ (b : Bool). fault_from part sound (i + 1) b (drop (i + 1) w) in
-    elim c.if-part.branch [
-      | goal.then-part+then-not-inside+else-not-is_sound v ↦ (
-          let run : between i v.run_end-end.result w ≡ front part (drop i w) = v.run_end-end.ensures.run in
-          ap go (v.inside-is ∙ v.if-part.true) ∙ fault_on part sound w i c.loop-i.inside h v.if-part.ensures (v.if-not-is_sound.ensures ∙ ap sound run) ∙ c.loop-i.invariant)
-      | goal.else-part v ↦ ap go v.inside-is ∙ fault_past part sound w i c.loop-i.inside h p c.is_part-part.ensures (none-begins p c.loop-i.inside v.else-part.either) ∙ c.loop-i.invariant
-    ]
 
 pub returns : goal.returns
 returns g c =
-    let part = g.S.Sort.part c.args.sort.now in
-    let sound = g.S.Sort.sound c.args.sort.now in
-    let w = c.args.field.now in
-    record { within = tt; value = sym (at_drop_all (fault_from part sound c.loop-i.i c.loop-i.inside) w c.loop-i.i c.loop-i-test.false) ∙ c.loop-i.invariant }
+    let t = YieldsList-end (YieldsList-from_slice_split {s = c.into_iter-run-iterator.result} _ (λ b. not (g.sort.part b)) c.args.field.now (cc) (cc) (cc) c.requires.1.1.1.1.0) c.loop-run.yielded _ c.loop-run.yielded_by _ _ c.in-None.is c.next.ensures.steps in
+    record { within = tt; value = walked_all g.sort c.args.field.now (length c.loop-run.yielded) c.loop-run.from (omega (arith, t.1)) c.loop-run.invariant }

@@ -1,2 +1,0 @@
-pub mod Arrays
-pub mod Steps
