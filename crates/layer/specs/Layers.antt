@@ -1,5 +1,5 @@
 -- What the layers mean: two sources as one, and a window on a part of one.
-use Rattle.std.specs.Prelude.{ℕ, ◌+◌, ◌-◌, min, max, cond, ◌&&◌, ◌||◌, Some, None, Option, nat_le}
+use Rattle.std.specs.Prelude.{ℕ, ◌+◌, ◌-◌, min, max, ◌&&◌, ◌||◌, Some, None, Option, nat_le}
 use Rattle.source.specs.Meaning.{Meaning, Price}
 
 -- `both M N`            M's length and stretches, and those of N that end within M's length
@@ -31,8 +31,3 @@ abbrev pub nearer : Option ℕ → Option ℕ → Option ℕ
 nearer None y = y
 nearer (Some a) None = Some a
 nearer (Some a) (Some b) = Some (min a b)
-
--- `within n x`          the answer where it is at most n
-abbrev pub within : ℕ → Option ℕ → Option ℕ
-within n None = None
-within n (Some e) = cond (nat_le e n) (Some e) None

@@ -1,7 +1,7 @@
 // Two sources as one.
 ghost use Rattle.std.specs.Prelude.{◌≡◌, ◌+◌, ◌≤◌, min};
 ghost use Rattle.layer.specs.Laws.{both_fair, both-lawful};
-ghost use Rattle.layer.specs.Layers.{both, both_price, nearer, within};
+ghost use Rattle.layer.specs.Layers.{both, both_price, nearer};
 
 use source::{PricedSource, Source};
 
@@ -15,7 +15,7 @@ pub struct Both<A, B> {
 impl<A: Source, B: Source> Both<A, B> {
     pub fn new(first: A, second: B) -> Both<A, B>
         ensures kept { (result.first ≡ first) × (result.second ≡ second) }
-        ensures meaning { both (A.Source.means result.first) (B.Source.means result.second) ≡ both (A.Source.means first) (B.Source.means second) }
+        ensures meaning { ⟦<Both<A, B> as Source>⟧.means result ≡ both (A.Source.means first) (B.Source.means second) }
     {
         Both { first, second }
     }
@@ -24,20 +24,7 @@ impl<A: Source, B: Source> Both<A, B> {
 fn nearer_of(x: Option<usize>, y: Option<usize>) -> Option<usize>
     ensures { result ≡ nearer x y }
 {
-    match (x, y) {
-        (Some(a), Some(b)) => Some(a.min(b)),
-        (Some(a), None) => Some(a),
-        (None, y) => y,
-    }
-}
-
-fn up_to(most: usize, x: Option<usize>) -> Option<usize>
-    ensures { result ≡ within most x }
-{
-    match x {
-        Some(e) if e <= most => Some(e),
-        _ => None,
-    }
+    x.into_iter().chain(y).min()
 }
 
 impl<A: Source, B: Source> Source for Both<A, B> {
@@ -52,7 +39,8 @@ impl<A: Source, B: Source> Source for Both<A, B> {
     fn next_end(&self, motif: usize, start: usize, least: usize) -> Option<usize> {
         let first = self.first.next_end(motif, start, least);
         let second = self.second.next_end(motif, start, least);
-        nearer_of(first, up_to(self.first.length(), second))
+        let length = self.first.length();
+        nearer_of(first, second.filter(|end| *end <= length))
     }
 
     fn next_start(&self, motif: usize, end: usize, least: usize) -> Option<usize> {

@@ -20,11 +20,11 @@ impl<S: Source> Window<S> {
     pub fn new(source: S, from: usize, to: usize) -> Window<S>
         ensures kept { result.source ≡ source }
         ensures places { (result.from ≡ cut_from (S.Source.means source).boxes from) × (result.to ≡ cut_to (S.Source.means source).boxes from to) }
-        ensures meaning { part (S.Source.means result.source) result.from result.to ≡ window (S.Source.means source) from to }
+        ensures meaning { ⟦<Window<S> as Source>⟧.means result ≡ window (S.Source.means source) from to }
     {
         let length = source.length();
         let from = from.min(length);
-        let to = from.max(to.min(length));
+        let to = to.clamp(from, length);
         Window { source, from, to }
     }
 }
@@ -39,31 +39,24 @@ impl<S: Source> Source for Window<S> {
     }
 
     fn next_end(&self, motif: usize, start: usize, least: usize) -> Option<usize> {
-        let length = self.to - self.from;
+        let length = self.length();
         if start > length || least > length {
             return None;
         }
-        match self
-            .source
+        self.source
             .next_end(motif, start + self.from, least + self.from)
-        {
-            Some(end) if end <= self.to => Some(end - self.from),
-            _ => None,
-        }
+            .filter(|end| *end <= self.to)
+            .map(|end| end - self.from)
     }
 
     fn next_start(&self, motif: usize, end: usize, least: usize) -> Option<usize> {
-        let length = self.to - self.from;
+        let length = self.length();
         if end > length || least > length {
             return None;
         }
-        match self
-            .source
+        self.source
             .next_start(motif, end + self.from, least + self.from)
-        {
-            Some(start) => Some(start - self.from),
-            None => None,
-        }
+            .map(|start| start - self.from)
     }
 }
 

@@ -1,23 +1,21 @@
 -- What the test of marks tells. Assumes nothing.
-use Rattle.std.proofs.Common.{◌≡◌, ℕ, zero, suc, ◌+◌, ◌<◌, ◌≤◌, Bool, true, false, not, ltb, List, [], ◌∷◌, map, length, get_or, drop, is_some, Some, None, Option, sym, ap, ◌∙◌, subst, ⊎_elim, add-one, arith}
-use Rattle.std.proofs.lemmas.List.{drop_more, get_or-map, length-map}
-use Rattle.std.proofs.lemmas.Bool.{both_ways, cases_Bool, cond_both, ltb-false, ltb-true, true≢false}
+use Rattle.std.proofs.Common.{◌≡◌, ℕ, zero, suc, ◌+◌, ◌<◌, ◌≤◌, Bool, true, false, not, ltb, List, [], ◌∷◌, map, length, get_or, drop, Some, None, Option, sym, subst, ⊎_elim, add-one, arith}
+use Rattle.std.proofs.lemmas.List.{drop_more, get_or-map}
+use Rattle.std.proofs.lemmas.Bool.{both_ways, cases_Bool, cond_both, ltb-false, ltb-true}
 use Rattle.std.proofs.lemmas.Bool.Decides.{nat_tests}
 use Rattle.refusal.specs.Checks.{refuse}
 use Rattle.entry.specs.declared.mark.Mark.{Mark}
 use Rattle.mark.specs.declared.fault.MarkFault.{MarkFault}
 use Rattle.mark.specs.declared.fault.MarkFault.TheVariants.{TooLong, Entry}
-use Rattle.mark.specs.declared.key.Key.{Key}
 use Rattle.mark.specs.Faults.{fault_from, fits, mark_fault}
 use Rattle.mark.specs.Judged.{FailsAt, Judged, Sound}
-use Rattle.mark.specs.Keys.{Sorted, before, start_mark}
 use Rattle.mark.specs.Lawful.{fits-lawful}
 use Rattle.mark.specs.Marks.{Before, LawfulMark}
 
 -- the test goes one mark on
-pub fault_on : (n : ℕ) (p : Option Mark) (xs : List Key) (i : ℕ) (d : Key) → i < length xs → (m : Mark) → m ≡ start_mark (get_or xs i d) → (t : Bool) → t ≡ fits n p m
-    → fault_from n p i (map start_mark (drop i xs)) ≡ refuse (not t) (Entry i) (fault_from n (Some m) (i + 1) (map start_mark (drop (i + 1) xs)))
-fault_on n p xs i d h m e t f = rw (drop_more xs i d h, f, e)
+pub fault_on : (n : ℕ) (p : Option Mark) (ms : List Mark) (i : ℕ) (d : Mark) → i < length ms → (m : Mark) → m ≡ get_or ms i d → (t : Bool) → t ≡ fits n p m
+    → fault_from n p i (drop i ms) ≡ refuse (not t) (Entry i) (fault_from n (Some m) (i + 1) (drop (i + 1) ms))
+fault_on n p ms i d h m e t f = rw (drop_more ms i d h, f, e)
 
 -- the mark before the one at i, where p stands before all
 abbrev prior : Option Mark → List Mark → ℕ → Option Mark
@@ -92,23 +90,5 @@ fault-judged : (n : ℕ) (ms : List Mark) → Judged n ms (mark_fault n ms)
 fault-judged n ms =
     cond_both (ltb 20000 n) (Some TooLong) (fault_from n None 0 ms) (Judged n ms) (λ long. ltb-true 20000 n long) (λ short. judged_from n ms (fault_from n None 0 ms) (ltb-false 20000 n short) (fault-tells n None 0 ms))
 
--- what the test answers of keys that read as xs
-pub judged : (n : ℕ) (xs ys : List Key) (r : Option MarkFault) → ys ≡ xs → r ≡ mark_fault n (map start_mark ys) → (r ≡ mark_fault n (map start_mark xs)) × Judged n (map start_mark xs) r
-judged n xs ys r same e =
-    let f : r ≡ mark_fault n (map start_mark xs) = e ∙ ap (λ zs. mark_fault n (map start_mark zs)) same in
-    (f, subst (Judged n (map start_mark xs)) (sym f) (fault-judged n (map start_mark xs)))
-
-none-sound : (n : ℕ) (ms : List Mark) (r : Option MarkFault) → is_some r ≡ false → Judged n ms r → Sound n ms (length ms)
-none-sound n ms None e j = j.all
-none-sound n ms (Some f) e j = absurd (true≢false e)
-
-after_not_before : (x y : Key) → Before (start_mark x) (start_mark y) → before y x ≡ false
-after_not_before x y b = grind (arith, nat_tests)
-
--- marks that passed are sorted by start
-pub passed_sorted : (n : ℕ) (xs : List Key) → is_some (mark_fault n (map start_mark xs)) ≡ false → Sorted xs
-passed_sorted n xs none i d h =
-    let sound = none-sound n (map start_mark xs) (mark_fault n (map start_mark xs)) none (fault-judged n (map start_mark xs)) in
-    let here = get_or-map start_mark xs i d (start_mark d) (omega arith) in
-    let next = get_or-map start_mark xs (i + 1) d (start_mark d) h in
-    after_not_before (get_or xs i d) (get_or xs (i + 1) d) (rw (here, next) at (sound.ascending i (start_mark d) (omega (arith, length-map xs start_mark))))
+pub judged : (n : ℕ) (ms : List Mark) (r : Option MarkFault) → r ≡ mark_fault n ms → Judged n ms r
+judged n ms r e = subst (Judged n ms) (sym e) (fault-judged n ms)

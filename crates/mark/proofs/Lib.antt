@@ -1,4 +1,2 @@
-pub mod Copies
 pub mod Judgement
-pub mod Order
-pub mod Search
+pub mod Keyed

@@ -13,11 +13,11 @@ pub enum MarkFault {
     Entry(usize),
 }
 
-impl MarkFault {
-    pub fn refusal(self) -> Refusal
-        ensures { result ≡ refusal_of self }
-    {
-        match self {
+impl From<MarkFault> for Refusal {
+    ghost from_gives = { λ fault refusal. refusal ≡ refusal_of fault };
+
+    fn from(fault: MarkFault) -> Refusal {
+        match fault {
             MarkFault::TooLong => Refusal::SourceTooLong,
             MarkFault::Entry(_) => Refusal::BadMark,
         }

@@ -1,9 +1,10 @@
-// A mark as a question reads it, and the search among keys in order.
+// A mark as a question reads it, and the search among keys.
 ghost use Rattle.std.specs.Prelude.{◌≡◌};
 ghost use Rattle.source.specs.Meaning.{Least};
-ghost use Rattle.mark.specs.Keys.{Sorted, any_key, before, end_key, start_key, start_mark};
+ghost use Rattle.mark.specs.Keys.{end_key, has_key, start_key};
 
 use entry::Mark;
+use std::collections::BTreeSet;
 
 // The end question knows a start and wants ends; the start question knows an end and wants starts. So `known` is the one
 // and `wanted` the other. Keys come in the order of motif, known, wanted.
@@ -14,6 +15,7 @@ pub(crate) struct Key {
     pub wanted: usize,
 }
 
+// Two ways, of which neither is the one that a `From<Mark>` could be.
 impl Key {
     pub fn by_start(mark: Mark) -> Key
         ensures { result ≡ start_key mark }
@@ -34,35 +36,12 @@ impl Key {
             wanted: mark.start,
         }
     }
-
-    // The mark that this key, by start, was made of.
-    pub fn start_mark(self) -> Mark
-        ensures { result ≡ start_mark self }
-    {
-        Mark {
-            motif: self.motif,
-            start: self.known,
-            end: self.wanted,
-        }
-    }
-
-    pub fn is_before(self, other: Key) -> bool
-        ensures { result ≡ before self other }
-    {
-        self.cmp(&other).is_lt()
-    }
 }
 
 // The smallest wanted, from that of `asked` on, that the keys have at the motif and the known of `asked`.
-pub(crate) fn least_wanted(keys: &[Key], asked: Key) -> Option<usize>
-    requires { Sorted keys.now }
-    ensures { Least (λ w. any_key keys.now asked.motif asked.known w) asked.wanted result }
+pub(crate) fn least_wanted(keys: &BTreeSet<Key>, asked: Key) -> Option<usize>
+    ensures { Least (λ w. has_key keys.now asked.motif asked.known w) asked.wanted result }
 {
-    match keys.binary_search(&asked) {
-        Ok(_) => Some(asked.wanted),
-        Err(place) => match keys.get(place) {
-            Some(key) if key.motif == asked.motif && key.known == asked.known => Some(key.wanted),
-            _ => None,
-        },
-    }
+    let key = keys.range(asked..).next()?;
+    (key.motif == asked.motif && key.known == asked.known).then_some(key.wanted)
 }

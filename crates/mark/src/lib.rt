@@ -2,7 +2,6 @@
 // copy can want memory. Both questions take logarithmic time in the number of marks.
 #![tactic(auto)]
 
-mod copy;
 pub mod fault;
 mod key;
 pub mod list;

@@ -1,15 +1,36 @@
-// Marks that were copied: in the order that they were handed in, and sorted by end.
-ghost use Rattle.std.specs.Prelude.{◌≡◌, ℕ};
-ghost use Rattle.mark.specs.Keys.{Sorted, any_key};
+// Marks that were copied: in the order that they were handed in, and as each question reads them.
+ghost use Rattle.std.specs.Prelude.{◌≡◌, ℕ, vec_items, IfOk};
+ghost use Rattle.mark.specs.Keys.{has_key};
+ghost use Rattle.mark.specs.Marks.{any_mark};
 
 use crate::key::Key;
+use entry::Mark;
+use std::alloc::{AllocError, Global};
+use std::collections::BTreeSet;
 
 #[derive(Drop)]
 pub struct MarkList {
-    pub(crate) starts: Vec<Key>,
-    pub(crate) ends: Vec<Key>,
-    // For the start question; the test is what says that `starts` is sorted.
-    ghost sorted: { Sorted ends.items },
-    // Both say the same stretches.
-    ghost same: { (k a b : ℕ) → any_key ends.items k b a ≡ any_key starts.items k a b },
+    pub(crate) marks: Vec<Mark>,
+    pub(crate) starts: BTreeSet<Key>,
+    pub(crate) ends: BTreeSet<Key>,
+    ghost starts_say: { (k a b : ℕ) → has_key starts k a b ≡ any_mark (vec_items marks) k a b },
+    ghost ends_say: { (k a b : ℕ) → has_key ends k b a ≡ any_mark (vec_items marks) k a b },
+}
+
+impl MarkList {
+    ghost use Rattle.mark.specs.Listed.{listed};
+
+    // The only call that can want memory.
+    pub fn copied(heap: Global, marks: &[Mark]) -> Result<MarkList, AllocError>
+        ensures { IfOk result (λ l. listed l ≡ marks.now) }
+    {
+        let starts = marks.iter().map(|mark| Key::by_start(*mark)).collect(heap)?;
+        let ends = marks.iter().map(|mark| Key::by_end(*mark)).collect(heap)?;
+        let marks = marks.to_vec(heap)?;
+        Ok(MarkList {
+            marks,
+            starts,
+            ends,
+        })
+    }
 }

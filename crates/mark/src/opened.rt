@@ -31,9 +31,10 @@ impl Source for MarkSource {
         self.tested.length
     }
 
+    // It and the next ask one search: they differ in the keys alone, and in which place is known.
     fn next_end(&self, motif: usize, start: usize, least: usize) -> Option<usize> {
         least_wanted(
-            self.tested.list.starts.as_slice(),
+            &self.tested.list.starts,
             Key {
                 motif,
                 known: start,
@@ -44,7 +45,7 @@ impl Source for MarkSource {
 
     fn next_start(&self, motif: usize, end: usize, least: usize) -> Option<usize> {
         least_wanted(
-            self.tested.list.ends.as_slice(),
+            &self.tested.list.ends,
             Key {
                 motif,
                 known: end,

@@ -1,8 +1,7 @@
 // The test of marks: whether they may be opened as a source of a given length.
-ghost use Rattle.std.specs.Prelude.{◌≡◌, map, IfOk, MatchResult};
+ghost use Rattle.std.specs.Prelude.{◌≡◌, IfOk, MatchResult};
 ghost use Rattle.mark.specs.Faults.{fits, mark_fault};
 ghost use Rattle.mark.specs.Judged.{Judged, fault_of};
-ghost use Rattle.mark.specs.Keys.{start_mark};
 ghost use Rattle.mark.specs.Listed.{listed};
 
 use crate::fault::{MarkFault, MarkRefused};
@@ -23,27 +22,25 @@ impl MarkList {
         ensures sized { IfOk result (λ t. t.length ≡ length) }
         ensures kept { MatchResult result (λ t. t.list ≡ self) (λ e. e.list ≡ self) }
     {
-        match first_fault(self.starts.as_slice(), length) {
+        match first_fault(self.marks.as_slice(), length) {
             Some(fault) => Err(MarkRefused { fault, list: self }),
             None => Ok(MarkTest { length, list: self }),
         }
     }
 }
 
-// The first fault of the marks that these keys, by start, were made of.
-fn first_fault(keys: &[Key], length: usize) -> Option<MarkFault>
-    ensures { result ≡ mark_fault length (map start_mark keys.now) }
+fn first_fault(marks: &[Mark], length: usize) -> Option<MarkFault>
+    ensures { result ≡ mark_fault length marks.now }
 {
     if length > MOST_BOXES {
         return Some(MarkFault::TooLong);
     }
     let mut previous = None;
-    for (at, key) in keys.iter().enumerate() {
-        let mark = key.start_mark();
-        if !is_fit(length, previous, mark) {
+    for (at, mark) in marks.iter().enumerate() {
+        if !is_fit(length, previous, *mark) {
             return Some(MarkFault::Entry(at));
         }
-        previous = Some(mark);
+        previous = Some(*mark);
     }
     None
 }
@@ -52,9 +49,8 @@ fn first_fault(keys: &[Key], length: usize) -> Option<MarkFault>
 fn is_fit(length: usize, previous: Option<Mark>, mark: Mark) -> bool
     ensures { result ≡ fits length previous mark }
 {
-    let ascends = match previous {
-        None => true,
-        Some(last) => Key::by_start(last).is_before(Key::by_start(mark)),
-    };
-    ascends && mark.motif <= LAST_MOTIF && mark.start <= mark.end && mark.end <= length
+    previous.is_none_or(|last| Key::by_start(last) < Key::by_start(mark))
+        && mark.motif <= LAST_MOTIF
+        && mark.start <= mark.end
+        && mark.end <= length
 }

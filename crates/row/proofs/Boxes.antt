@@ -1,14 +1,13 @@
 -- Where items stand, said box by box.
-use Rattle.std.proofs.Common.{◌≡◌, ℕ, zero, suc, ◌<◌, ◌≤◌, true, List, [], ◌∷◌, length, get_or, drop, Decides, sym, refl, ap, ◌∙◌, arith}
+use Rattle.std.proofs.Common.{◌≡◌, ℕ, zero, suc, ◌+◌, ◌<◌, ◌≤◌, true, List, [], ◌∷◌, length, get_or, drop, Decides, sym, refl, ap, ◌∙◌, arith}
 use Rattle.std.proofs.lemmas.List.{get_or-drop, length-drop}
-use Rattle.std.proofs.lemmas.Bool.{and_parts, and_from, false≢true}
+use Rattle.std.proofs.lemmas.Bool.{and_parts, and_from, eq-eqb, false≢true}
 use Rattle.book.specs.Adding.{motifs_in}
 use Rattle.book.specs.declared.values.book.Book.{Book}
 use Rattle.entry.specs.Bodies.{fits, all_fit}
 use Rattle.entry.specs.declared.body.Item.{Item}
 use Rattle.row.specs.Row.{StandsAt, items_from, row_meaning, stands}
 use Rattle.row.specs.Laws.{standing}
-use Rattle.row.proofs.Fit.{stands_from}
 
 fit-boxes : (is : List Item) (ys : List ℕ) → all_fit is ys ≡ true → (j : ℕ) (d : Item) → j < length is → fits (get_or is j d) (get_or ys j 0) ≡ true
 fit-boxes [] ys h j d l = absurd (omega arith)
@@ -21,6 +20,10 @@ boxes-fit [] ys l all = refl
 boxes-fit (i ∷ is) [] l all = absurd (omega arith)
 boxes-fit (i ∷ is) (y ∷ ys) l all =
     and_from (fits i y) (all_fit is ys) (all zero i (omega arith)) (boxes-fit is ys (omega arith) (λ j d h. all (suc j) d (omega arith)))
+
+stands_from : (is : List Item) (xs : List ℕ) (a b : ℕ) → 0 < length is → b ≡ a + length is → all_fit is (drop a xs) ≡ true → stands is xs a b ≡ true
+stands_from [] xs a b h e f = absurd (omega arith)
+stands_from (i ∷ is) xs a b h e f = and_from _ _ (eq-eqb b (a + length (i ∷ is)) e) f
 
 stands_decides : (is : List Item) (xs : List ℕ) (a b : ℕ) → Decides (stands is xs a b) (StandsAt is xs a b)
 stands_decides is xs a b = (

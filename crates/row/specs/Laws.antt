@@ -4,7 +4,7 @@ use Rattle.std.proofs.Common.{sym, arith}
 use Rattle.std.proofs.lemmas.List.{length-drop, length-take}
 use Rattle.std.proofs.lemmas.Bool.{and_parts, eqb-true, true≢false}
 use Rattle.book.specs.Adding.{motifs_in}
-use Rattle.entry.specs.Bodies.{items, fits, all_fit}
+use Rattle.entry.specs.Bodies.{items, items_of, fits, all_fit}
 use Rattle.entry.specs.declared.body.Body.{Body}
 use Rattle.entry.specs.declared.body.Item.{Item}
 use Rattle.book.specs.declared.values.book.Book.{Book}
@@ -48,11 +48,18 @@ row_lawful xs book short =
       inside = λ k a b h. (standing (items_from ms k) xs a b h).inside;
     }
 
+-- a body has 1 to 16 items
+pub some_items : (b : Body) → 0 < length (items_of b)
+some_items b = b.some
+
+pub few_items : (b : Body) → length (items_of b) ≤ 16
+few_items b = omega (arith, length-take b.items.len b.items.kept, b.items.few)
+
 few-items : (body : Option Body) → length (items body) ≤ 16
 few-items None = omega arith
-few-items (Some b) = omega (arith, length-take b.len b.items, b.few)
+few-items (Some b) = few_items b
 
-pub few_at : (ms : List Motif) (k : ℕ) → length (items_from ms k) ≤ 16
+few_at : (ms : List Motif) (k : ℕ) → length (items_from ms k) ≤ 16
 few_at [] k = omega arith
 few_at (m ∷ ms) zero = few-items m.body
 few_at (m ∷ ms) (suc k) = few_at ms k

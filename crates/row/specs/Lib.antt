@@ -1,3 +1,4 @@
 pub mod Row
 pub mod Laws
+pub mod Tested
 pub mod Opened

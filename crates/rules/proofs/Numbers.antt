@@ -1,9 +1,10 @@
 -- The motifs and ranges of a rule by their numbers, from 1.
-use Rattle.std.proofs.Common.{◌≡◌, ℕ, zero, suc, ◌+◌, ◌-◌, ◌<◌, ◌≤◌, List, [], ◌∷◌, length, get_or, sym, refl, ap, ◌∙◌, arith}
+use Rattle.std.proofs.Common.{◌≡◌, ℕ, zero, suc, ◌+◌, ◌-◌, ◌<◌, ◌≤◌, List, [], ◌∷◌, length, get_or, sym, refl, ap, ◌∙◌, ap₂, arith}
 use Rattle.entry.specs.declared.range.Range.{Range}
 use Rattle.entry.specs.Rules.{span_of, links_of, net_from, net_of, motifs_of, ranges_of}
 use Rattle.entry.specs.declared.rule.Rule.{Rule}
-use Rattle.entry.proofs.Lengths.{motifs-length, ranges_length}
+use Rattle.std.proofs.lemmas.List.{length-take}
+use Rattle.rules.specs.Nets.{motifs}
 use Rattle.walk.specs.Numbered.{no_link, motif_after, motif, range}
 
 links-long : (ms : List ℕ) (gs : List Range) → length ms ≡ length gs → length (links_of ms gs) ≡ length gs
@@ -40,16 +41,31 @@ net-range (m ∷ ms) gs k d e lt =
     ap (λ x. (get_or (links_of ms gs) x no_link).range) (let q : k + 1 - 1 ≡ k = omega arith in q) ∙ link-range ms gs k d (omega arith) (omega arith)
 
 module _ (r : Rule) where
-  fit : length (motifs_of r) ≡ length (ranges_of r) + 1
-  fit = omega (arith, motifs-length r, ranges_length r)
+  pub rule-motifs : motifs (net_of r) ≡ length (motifs_of r)
+  rule-motifs = net-motifs (motifs_of r) (ranges_of r) r.between
 
-  pub rule-motifs : length (net_of r).rest + 1 ≡ r.len
-  rule-motifs = net-motifs (motifs_of r) (ranges_of r) fit ∙ motifs-length r
-
-  pub rule-motif : (i : ℕ) → 1 ≤ i → i ≤ r.len → get_or (motifs_of r) (i - 1) 0 ≡ motif (net_of r) i
+  pub rule-motif : (i : ℕ) → 1 ≤ i → i ≤ length (motifs_of r) → get_or (motifs_of r) (i - 1) 0 ≡ motif (net_of r) i
   rule-motif i some within =
-      sym (net-motif (motifs_of r) (ranges_of r) (i - 1) fit (omega (arith, motifs-length r))) ∙ ap (motif (net_of r)) (let e : i - 1 + 1 ≡ i = omega arith in e)
+      sym (net-motif (motifs_of r) (ranges_of r) (i - 1) r.between (omega arith)) ∙ ap (motif (net_of r)) (let e : i - 1 + 1 ≡ i = omega arith in e)
 
-  pub rule-range : (k : ℕ) (d : Range) → 1 ≤ k → k + 1 ≤ r.len → span_of (get_or (ranges_of r) (k - 1) d) ≡ range (net_of r) k
+  pub rule-range : (k : ℕ) (d : Range) → 1 ≤ k → k + 1 ≤ length (motifs_of r) → span_of (get_or (ranges_of r) (k - 1) d) ≡ range (net_of r) k
   rule-range k d some within =
-      sym (net-range (motifs_of r) (ranges_of r) (k - 1) d fit (omega (arith, ranges_length r))) ∙ ap (range (net_of r)) (let e : k - 1 + 1 ≡ k = omega arith in e)
+      sym (net-range (motifs_of r) (ranges_of r) (k - 1) d r.between (omega (arith, r.between))) ∙ ap (range (net_of r)) (let e : k - 1 + 1 ≡ k = omega arith in e)
+
+  -- the same of the lists that a rule lends
+  pub few_motifs : motifs (net_of r) ≤ 12
+  few_motifs = omega (arith, rule-motifs, length-take r.motifs.len r.motifs.kept, r.motifs.few)
+
+  pub length_of : (ms : List ℕ) → ms ≡ motifs_of r → length ms ≡ motifs (net_of r)
+  length_of ms is = omega (arith, ap length is, rule-motifs)
+
+  pub gaps_of : (gs : List Range) → gs ≡ ranges_of r → length gs + 1 ≡ motifs (net_of r)
+  gaps_of gs is = omega (arith, ap length is, r.between, rule-motifs)
+
+  pub motif_of : (ms : List ℕ) → ms ≡ motifs_of r → (i : ℕ) → 1 ≤ i → i ≤ motifs (net_of r) → get_or ms (i - 1) 0 ≡ motif (net_of r) i
+  motif_of ms is i some within = ap (λ xs. get_or xs (i - 1) 0) is ∙ rule-motif i some (omega (arith, rule-motifs))
+
+  pub range_of : (gs : List Range) → gs ≡ ranges_of r → (k x : ℕ) (g : Range) → g ≡ get_or gs x g → x + 1 ≡ k → k + 1 ≤ motifs (net_of r) → span_of g ≡ range (net_of r) k
+  range_of gs is k x g at next within =
+      let place : x ≡ k - 1 = omega arith in
+      ap span_of (at ∙ ap₂ (λ ys y. get_or ys y g) is place) ∙ rule-range k g (omega arith) (omega (arith, rule-motifs))

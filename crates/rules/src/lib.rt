@@ -11,6 +11,7 @@ use book::Book;
 use entry::Rule;
 
 // The rule with the number, from 0, `None` where the book has no such rule.
+#[tactic(auto, using(crate::proofs::Found::rule_found))]
 pub fn rule_at(book: &Book, number: usize) -> Option<&Rule>
     ensures { option_map (λ x. net_of x.now) result ≡ rule_numbered (nets_in book.now) number }
 {

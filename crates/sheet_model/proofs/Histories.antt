@@ -1,5 +1,6 @@
 -- What a history tells, from what the account of the same calls and replies tells: its bill is the account's, once finished.
 use Rattle.std.proofs.Common.{◌≡◌, ℕ, zero, suc, ◌+◌, Bool, true, false, List, [], ◌∷◌, ◌++◌, length, Some, None, Option, sym, refl, ap, ◌∙◌, subst, ap₂}
+use Rattle.std.proofs.lemmas.Bool.{false_from_ne_true}
 use Rattle.walk.specs.Lists.{In, Apart, Lists}
 use Rattle.entry.specs.Rules.{Net}
 use Rattle.source.specs.Meaning.{Priced, Lawful, plain}
@@ -10,15 +11,15 @@ use Rattle.sheet_model.specs.Strip.{read_find}
 use Rattle.sheet_model.specs.Sheet.{Laid, Sheet, clean, laid, Call, lay, look, take, wipe, Reply, Refused, Done, Found, Finished, Paused, Took, Returned, rule_numbered, look_on, look_fault, look_if, answer, answers}
 use Rattle.sheet_model.specs.History.{Task, History, nothing, note_rule, note_lay, note_look, note_find, note_take, note, noted, Tells, CallsTold, ProperCalls}
 use Rattle.sheet_model.specs.Accounts.{Account, no_entries, enter_rule, enter_lay, enter_look, enter_find, enter_take, enter, entered, TellsAll}
-use Rattle.sheet_model.proofs.Sheets.{Keeps, keeps_answer, not_yet, no_cons, some_same, none-some, calls_accounted}
+use Rattle.sheet_model.proofs.Sheets.{Keeps, keeps_answer, calls_accounted}
 
 abbrev told : Bool → ℕ → Option ℕ
 told true b = Some b
 told false b = None
 
 told_out : (f : Bool) (a b : ℕ) → told f a ≡ Some b → (f ≡ true) × (a ≡ b)
-told_out true a b e = (refl, some_same e)
-told_out false a b e = absurd (none-some e)
+told_out true a b e = (refl, cc)
+told_out false a b e = cc
 
 -- a history and an account of the same calls and replies
 record Same (h : History) (a : Account) : Type 0 where
@@ -41,10 +42,10 @@ same_lay h a o q (Returned x strip) s = s
 
 same_find : (h : History) (a : Account) (t u : Option Task) (strip : List ℕ) → t ≡ u → Same h a → Same (note_find h t strip) (enter_find a u strip)
 same_find h a None None strip e s = s
-same_find h a None (Some u) strip e s = absurd (none-some e)
-same_find h a (Some t) None strip e s = absurd (none-some (sym e))
+same_find h a None (Some u) strip e s = cc
+same_find h a (Some t) None strip e s = cc
 same_find h a (Some t) (Some u) strip e s =
-    let q : t ≡ u = some_same e in
+    let q : t ≡ u = cc in
     record { task = s.task; taken = ap₂ (λ ps x. ps ++ read_find (length x.rule.rest) strip ∷ []) s.taken q; bill = s.bill }
 
 same_take : (h : History) (a : Account) (r : Reply) → Same h a → Same (note_take h r) (enter_take a r)
@@ -63,10 +64,10 @@ unfinished h a b e s = s.bill ∙ ap (λ f. told f a.bill) e ∙ sym (ap (λ f. 
 same_look_on : (h : History) (a : Account) (k made : ℕ) (es : List Event) (bill : ℕ) → (a.finished ≡ true → es ≡ []) → Same h a → let r = (look_on k made es bill).1 in Same (note_look h r) (enter_look a r)
 same_look_on h a k made [] bill f s = record { task = s.task; taken = s.taken; bill = refl }
 same_look_on h a k made (found p ∷ es) bill f s =
-    record { task = s.task; taken = s.taken; bill = unfinished h a bill (not_yet a.finished (λ e. no_cons (f e))) s }
+    record { task = s.task; taken = s.taken; bill = unfinished h a bill (false_from_ne_true a.finished (λ e. cc (f e))) s }
 same_look_on h a zero made (looked c ∷ es) bill f s =
-    record { task = s.task; taken = s.taken; bill = unfinished h a bill (not_yet a.finished (λ e. no_cons (f e))) s }
-same_look_on h a (suc k) made (looked c ∷ es) bill f s = same_look_on h a k (made + 1) es (bill + c) (λ e. absurd (no_cons (f e))) s
+    record { task = s.task; taken = s.taken; bill = unfinished h a bill (false_from_ne_true a.finished (λ e. cc (f e))) s }
+same_look_on h a (suc k) made (looked c ∷ es) bill f s = same_look_on h a k (made + 1) es (bill + c) (λ e. cc (f e)) s
 
 same_look_if : (h : History) (a : Account) (l : Laid) (k : ℕ) (q : Option Refusal) → (a.finished ≡ true → l.rest ≡ []) → Same h a → let r = (look_if l k q).1 in Same (note_look h r) (enter_look a r)
 same_look_if h a l k (Some x) f s = s

@@ -28,7 +28,7 @@ pub trait PricedSource: Source {
 
     ghost fair: { (s : Self) (k : ℕ) → Fair (price s k) };
 
-    // Look price and opening price of a motif, as one pair.
+    // Look price and opening price of a motif, as one pair: what every priced source answers is fixed so.
     fn prices(&self, motif: usize) -> (u32, u32)
         ensures look { result.0 ≡ (price self.now motif).look }
         ensures opening { result.1 ≡ (price self.now motif).opening };
@@ -38,10 +38,7 @@ pub trait PricedSource: Source {
 pub fn has_stretch<S: Source>(source: &S, motif: usize, start: usize, end: usize) -> bool
     ensures { result ≡ (S.means source.now).has motif start end }
 {
-    match source.next_end(motif, start, end) {
-        Some(found) => found == end,
-        None => false,
-    }
+    source.next_end(motif, start, end) == Some(end)
 }
 
 // What the first look of a step costs: the opening price and the look price.

@@ -1,14 +1,13 @@
 -- What a call names: a rule by its number, and an order.
-use Rattle.std.specs.Prelude.{ℕ, zero, suc, List, [], ◌∷◌, Some, None, Option}
+use Rattle.std.specs.Prelude.{ℕ, List, Option}
+use Rattle.std.specs.List.{slice_get}
 use Rattle.entry.specs.Rules.{Net}
 use Rattle.walk.specs.Walk.{Order}
 use Rattle.walk.specs.declared.order.Order as declared
 
 -- `rule_numbered rules k`  the rule with the number k, from 0, if there is one
 abbrev pub rule_numbered : List Net → ℕ → Option Net
-rule_numbered [] k = None
-rule_numbered (r ∷ rules) zero = Some r
-rule_numbered (r ∷ rules) (suc k) = rule_numbered rules k
+rule_numbered rules k = slice_get rules k
 
 -- `order_of o`       the seed and the letters that an order holds
 abbrev pub order_of : declared.Order → Order

@@ -1,28 +1,19 @@
-use Rattle.std.proofs.Common.{map, vec_items, ap, ◌∙◌, arith}
-use Rattle.mark.specs.Keys.{end_key, start_key, start_mark}
-use Rattle.mark.proofs.Copies.{keyed_all, keyed_more, marks_again, same_keys}
+use Rattle.std.proofs.Common.{rules, Ok, sym, ap, ◌∙◌}
+use Rattle.std.specs.Bool.{⊤}
+use Rattle.std.specs.BTreeSet.{IsFromIterResult}
+use Rattle.std.proofs.lemmas.Iterator.{YieldsList-from_map, YieldsList-from_slice}
+use Rattle.std.proofs.lemmas.Iterator.Adapters.{fact_from_collect}
+use Rattle.mark.specs.Keys.{end_key, rank_key, start_key}
+use Rattle.mark.specs.Marks.{any_mark}
+use Rattle.mark.proofs.Keyed.{ends_say, starts_say}
 use Rattle.mark.proofs.list.MarkList.copied.Goals as goal
 
-pub loop-mark-preserved : goal.loop-mark-preserved
-loop-mark-preserved c =
-    let ms = c.args.marks.now in
-    let i = c.loop-mark.mark-index in (
-      keyed_more start_key ms i _ (vec_items c.loop-mark.starts) (vec_items c.push.new.self) c.by_start.result c.loop-mark-test.true c.loop-mark.invariant.0 c.by_start.ensures c.in_ok-push.ensures.items,
-      keyed_more end_key ms i _ (vec_items c.loop-mark.ends) (vec_items c.push-in-loop-mark.new.self) c.by_end.result c.loop-mark-test.true c.loop-mark.invariant.1 c.by_end.ensures c.in_ok-push-2.ensures.items,
-    )
+pub invariant_of-result-clause-starts_say : goal.invariant_of-result-clause-starts_say
+invariant_of-result-clause-starts_say c k a b =
+    let made = fact_from_collect {E = ⊤} (IsFromIterResult rank_key) (Ok c.in_ok-starts.starts) c.in_ok-starts.ensures.ran (YieldsList-from_map _ start_key (YieldsList-from_slice c.args.marks.now cc) c.map.ensures.closure (λ x r q k. search rules)) in
+    starts_say c.args.marks.now c.in_ok-starts.starts made k a b ∙ ap (λ ms. any_mark ms k a b) (sym (c.in_ok-marks.ensures.items_if_clones_equal (λ x y e. e)))
 
-pub invariant_of-result : goal.invariant_of-result
-invariant_of-result c =
-    let ms = c.args.marks.now in
-    let i = c.loop-mark.mark-index in
-    let starts = vec_items c.loop-mark.starts in
-    let ends = vec_items c.loop-mark.ends in
-    let sorted = vec_items c.sort.new.self in record {
-      sorted = λ k d h. c.in_ok-sort.ensures.sorted k d (omega arith) h;
-      same = same_keys ms starts ends sorted (keyed_all start_key ms i starts c.loop-mark-test.false c.loop-mark.invariant.0) (keyed_all end_key ms i ends c.loop-mark-test.false c.loop-mark.invariant.1) c.in_ok-sort.ensures.permutation;
-    }
-
-pub returns : goal.returns
-returns c =
-    let ms = c.args.marks.now in
-    ap (map start_mark) (keyed_all start_key ms c.loop-mark.mark-index (vec_items c.loop-mark.starts) c.loop-mark-test.false c.loop-mark.invariant.0) ∙ marks_again ms
+pub invariant_of-result-clause-ends_say : goal.invariant_of-result-clause-ends_say
+invariant_of-result-clause-ends_say c k a b =
+    let made = fact_from_collect {E = ⊤} (IsFromIterResult rank_key) (Ok c.in_ok-ends.ends) c.in_ok-ends.ensures.ran (YieldsList-from_map _ end_key (YieldsList-from_slice c.args.marks.now cc) c.map-2.ensures.closure (λ x r q k. search rules)) in
+    ends_say c.args.marks.now c.in_ok-ends.ends made k a b ∙ ap (λ ms. any_mark ms k a b) (sym (c.in_ok-marks.ensures.items_if_clones_equal (λ x y e. e)))
