@@ -34,8 +34,8 @@ pub record Performed (P : Priced) (s t : Sheet) (olds news : List Turn) (i : ℕ
 pub performed_none : (P : Priced) (s : Sheet) (ts : List Turn) → Performed P s s ts ts 0
 performed_none P s ts = record { long = refl; replied = refl; left = refl; rest = refl; kept = refl }
 
-pub performed_more : (P : Priced) (s t u : Sheet) (olds news : List Turn) (i : ℕ) (x y : Turn) → Performed P s t olds news i → i < length olds → x ≡ get_or news i x → said y ≡ Some (answer P t (call_of x.call)).1 → u ≡ (answer P t (call_of x.call)).0 → handed y.call ≡ handed x.call → Performed P s u olds (set news i y) (i + 1)
-performed_more P s t u olds news i x y v h is replied left kept =
+pub performed_more : (P : Priced) (s t u : Sheet) (olds news : List Turn) (i : ℕ) (x y : Turn) (r : Reply) → Performed P s t olds news i → i < length olds → x ≡ get_or news i x → answer P t (call_of x.call) ≡ (u, r) → said y ≡ Some r → handed y.call ≡ handed x.call → Performed P s u olds (set news i y) (i + 1)
+performed_more P s t u olds news i x y r v h is told said_so kept =
     let inside : i < length news = omega (arith, v.long) in
     let zero_more : i + 0 ≡ i = omega arith in
     let same : get_or news i x ≡ get_or olds i x =
@@ -46,36 +46,24 @@ performed_more P s t u olds news i x y v h is replied left kept =
     let now : answer P t (call_of x.call) ≡ answer P (after P s (calls_in (take i olds))) (call_of x.call) = ap (λ z. answer P z (call_of x.call)) v.left in
     let next : answers P s (calls_in (take (i + 1) olds)) ≡ answers P s (calls_in (take i olds)) ++ (answer P t (call_of x.call)).1 ∷ [] =
     ap (answers P s) calls ∙ answers_push P s (calls_in (take i olds)) (call_of x.call) ∙ ap (λ a. answers P s (calls_in (take i olds)) ++ a.1 ∷ []) (sym now) in
+    let replied : said y ≡ Some (answer P t (call_of x.call)).1 = said_so ∙ ap (λ a. Some a.1) (sym told) in
     record {
       long = length-set news i y ∙ v.long;
       replied = ap (map said) new ∙ map_push said (take i news) y ∙ ap₂ (λ l r. l ++ r ∷ []) v.replied replied
           ∙ sym (map_push Some (answers P s (calls_in (take i olds))) (answer P t (call_of x.call)).1) ∙ ap (map Some) (sym next);
-      left = left ∙ ap (λ a. a.0) now ∙ sym (after_push P s (calls_in (take i olds)) (call_of x.call)) ∙ ap (after P s) (sym calls);
+      left = ap (λ a. a.0) (sym told ∙ now) ∙ sym (after_push P s (calls_in (take i olds)) (call_of x.call)) ∙ ap (after P s) (sym calls);
       rest = drop-set-lt (i + 1) news i y (omega arith) ∙ drop_on news olds i v.rest;
       kept = ap handed_in new ∙ map_push (λ q. handed q.call) (take i news) y ∙ ap₂ (λ l c. l ++ c ∷ []) v.kept kept ∙ sym (ap handed_in old ∙ map_push (λ q. handed q.call) (take i olds) x);
     }
 
--- the whole list, once its last turn is made
-pub record All (P : Priced) (s t : Sheet) (olds news : List Turn) : Type 0 where
-  pub replied : Replied news (answers P s (calls_in olds))
-  pub left : t ≡ after P s (calls_in olds)
-  pub kept : map (λ x. handed x.call) news ≡ map (λ x. handed x.call) olds
-
-pub performed_all : (P : Priced) (s t : Sheet) (olds news : List Turn) (i : ℕ) → Performed P s t olds news i → length olds ≤ i → All P s t olds news
-performed_all P s t olds news i v h =
+-- once the last turn is made, a list that began from a clean sheet tells the whole
+pub performed_whole : (P : Priced) (s t : Sheet) (olds news : List Turn) (i : ℕ) → Lawful (plain P) → Performed P s t olds news i → length olds ≤ i → s ≡ clean → (rs : List Reply) × Replied news rs × Whole P (calls_in olds) rs (bill_of t)
+performed_whole P s t olds news i lawful v h e =
+    let cs = calls_in olds in
     let old = take_all i olds h in
     let new = take_all i news (omega (arith, v.long)) in
-    record {
-      replied = ap (map said) (sym new) ∙ v.replied ∙ ap (λ ts. map Some (answers P s (calls_in ts))) old;
-      left = v.left ∙ ap (λ ts. after P s (calls_in ts)) old;
-      kept = ap handed_in (sym new) ∙ v.kept ∙ ap handed_in old;
-    }
-
--- and from a clean sheet it tells the whole
-pub all_whole : (P : Priced) (s t : Sheet) (olds news : List Turn) → Lawful (plain P) → All P s t olds news → s ≡ clean → (rs : List Reply) × Replied news rs × Whole P (calls_in olds) rs (bill_of t)
-all_whole P s t olds news lawful v e =
-    let cs = calls_in olds in (
+    let left : t ≡ after P clean cs = v.left ∙ ap₂ (λ x ts. after P x (calls_in ts)) e old in (
       answers P clean cs,
-      v.replied ∙ ap (λ x. map Some (answers P x cs)) e,
-      subst (λ b. Whole P cs (answers P clean cs) b) (sym (ap bill_of (v.left ∙ ap (λ x. after P x cs) e))) (whole-stands P lawful cs (proper_calls olds)),
+      ap (map said) (sym new) ∙ v.replied ∙ ap₂ (λ x ts. map Some (answers P x (calls_in ts))) e old,
+      subst (λ b. Whole P cs (answers P clean cs) b) (sym (ap bill_of left)) (whole-stands P lawful cs (proper_calls olds)),
     )

@@ -1,14 +1,15 @@
 -- What a turn says in the words of the sheet's model: its call, and the reply to it.
-use Rattle.std.specs.Prelude.{◌≡◌, ℕ, List, [], map, Some, vec_items, Option}
+use Rattle.std.specs.Prelude.{◌≡◌, ℕ, List, [], map, Some, vec_items, Option, Ok, Err, Result}
 use Rattle.std.specs.Option.{option_map}
+use Rattle.refusal.specs.declared.Refusal.{Refusal}
 use Rattle.rules.specs.Nets.{nets_in}
 use Rattle.walk.specs.Asked.{order_of}
 use Rattle.sheet_model.specs.Sheet as M
 use Rattle.sheet.specs.States.{ending}
+use Rattle.perform.specs.declared.values.Answer.{Answer}
+use Rattle.perform.specs.declared.values.Answer.TheVariants.{Done, Looked}
 use Rattle.perform.specs.declared.values.Call.{Call}
 use Rattle.perform.specs.declared.values.Call.TheVariants.{Lay, Look, Take, Wipe}
-use Rattle.perform.specs.declared.values.Reply.{Reply}
-use Rattle.perform.specs.declared.values.Reply.TheVariants.{Done, Looked, Refused}
 use Rattle.perform.specs.declared.values.Turn.{Turn}
 
 abbrev pub call_of : Call → M.Call
@@ -24,18 +25,18 @@ handed (Look allowance) = M.look allowance
 handed (Take strip) = M.take []
 handed Wipe = M.wipe
 
-abbrev pub plain_reply : Reply → M.Reply
-plain_reply Done = M.Done
-plain_reply (Looked l) = ending l.outcome l.looks l.bill
-plain_reply (Refused x) = M.Refused x
+abbrev pub plain_reply : Result Answer Refusal → M.Reply
+plain_reply (Ok Done) = M.Done
+plain_reply (Ok (Looked l)) = ending l.outcome l.looks l.bill
+plain_reply (Err x) = M.Refused x
 
 -- the reply to a take has the strip, as it stands then
-abbrev pub strip_reply : List ℕ → Reply → M.Reply
-strip_reply strip Done = M.Took strip
-strip_reply strip (Looked l) = ending l.outcome l.looks l.bill
-strip_reply strip (Refused x) = M.Returned x strip
+abbrev pub strip_reply : List ℕ → Result Answer Refusal → M.Reply
+strip_reply strip (Ok Done) = M.Took strip
+strip_reply strip (Ok (Looked l)) = ending l.outcome l.looks l.bill
+strip_reply strip (Err x) = M.Returned x strip
 
-abbrev pub reply_to : Call → Reply → M.Reply
+abbrev pub reply_to : Call → Result Answer Refusal → M.Reply
 reply_to (Lay book rule order) r = plain_reply r
 reply_to (Look allowance) r = plain_reply r
 reply_to (Take strip) r = strip_reply (vec_items strip) r

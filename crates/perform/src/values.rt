@@ -21,16 +21,16 @@ pub enum Call<'a> {
     Wipe,
 }
 
+// What a call that is not refused answers.
 #[derive(Clone, Copy)]
-pub enum Reply {
+pub enum Answer {
     Done,
     Looked(Looked),
-    Refused(Refusal),
 }
 
 // A call and its reply, `None` until the call is made. An accepted take writes into the strip of its call.
 #[derive(Drop)]
 pub struct Turn<'a> {
     pub call: Call<'a>,
-    pub reply: Option<Reply>,
+    pub reply: Option<Result<Answer, Refusal>>,
 }

@@ -1,13 +1,9 @@
 -- A find as a list of stretches, and on a strip.
 use Rattle.std.specs.Prelude.{ℕ, ◌-◌, List, [], ◌∷◌, ◌++◌, length, drop, replicate, Some, None, Option}
 use Rattle.walk.specs.Places as W
-use Rattle.strip.specs.declared.stretch.Stretch.{Stretch}
 use Rattle.walk.specs.declared.letter.Letter.{Letter}
 use Rattle.walk.specs.declared.letter.Letter.TheVariants.{L, R}
 use Rattle.sheet_model.specs.Strip.{numbers_of, stretches_of}
-
-abbrev pub stretch_of : Stretch → W.Stretch
-stretch_of s = record { start = s.start; end = s.end }
 
 -- stretches with one more on a letter's side
 abbrev pub grown_list : Letter → List W.Stretch → W.Stretch → List W.Stretch

@@ -1,88 +1,26 @@
 // A find on a strip of numbers.
 #![tactic(auto)]
 
-mod room;
-mod stretch;
-
-ghost use Rattle.std.specs.Prelude.{◌≡◌, ◌+◌, ◌-◌, ◌*◌, ◌<◌, ◌≤◌, ◌++◌, map, length, take, drop, replicate, None, vec_len, vec_capacity, OnErr, OnOk, nat_lt};
+ghost use Rattle.std.specs.Prelude.{◌≡◌, ◌+◌, ◌<◌, ◌≤◌, map, length, None, vec_len, vec_capacity, OnErr, OnOk, nat_lt};
 ghost use Rattle.refusal.specs.Checks.{refuse, refused_by};
 ghost use Rattle.refusal.specs.declared.Refusal.TheVariants.{ShortStrip};
-ghost use Rattle.sheet_model.specs.Strip.{numbers_of, stretches_of, written};
-ghost use Rattle.stack.specs.Frames.{find_of, stretch_of as frame_stretch};
+ghost use Rattle.sheet_model.specs.Strip.{stretches_of, written};
+ghost use Rattle.stack.specs.Frames.{stretch_of};
 ghost use Rattle.stack.specs.Searches.{made_of};
-ghost use Rattle.strip.specs.Finds.{grown_list, stretch_of, written_list};
+ghost use Rattle.strip.specs.Finds.{grown_list, written_list};
 
-pub use self::room::FindRoom;
-use self::stretch::Stretch;
 use refusal::Refusal;
-use stack::{Frame, Search};
+use stack::{Ends, Frame, Search};
 use std::alloc::{AllocError, Global};
 use walk::Letter;
 
-// Adds the frame's stretch to a run, on its side.
-fn add_stretch(run: &mut Vec<Stretch>, f: Frame)
-    requires { vec_len run.old < vec_capacity run.old }
-    ensures items { map stretch_of run.new.items ≡ grown_list f.letter (map stretch_of run.old.items) (frame_stretch f) }
-    ensures len { vec_len run.new ≡ vec_len run.old + 1 }
-    ensures room { vec_capacity run.old ≤ vec_capacity run.new }
-{
-    let s = Stretch {
-        start: f.from,
-        end: f.to,
-    };
-    match f.letter {
-        Letter::L => match run.insert(0, s) {
-            Ok(()) => {}
-            Err(_) => {}
-        },
-        Letter::R => run.push_reserved(s),
-    }
-}
-
-// The stretches of the frames, in the rule's order.
-fn gather(run: &mut Vec<Stretch>, frames: &[Frame], top: Frame)
-    requires room { 12 ≤ vec_capacity run.old }
-    requires few { length frames.now ≤ 11 }
-    ensures items { map stretch_of run.new.items ≡ stretches_of (find_of frames.now top) }
-    ensures len { vec_len run.new ≤ 12 }
-    ensures room { 12 ≤ vec_capacity run.new }
-{
-    run.clear();
-    for f in frames {
-        add_stretch(run, *f);
-    }
-    add_stretch(run, top);
-}
-
-fn put_stretches(strip: &mut [u32], run: &[Stretch])
-    requires run_len_bound { length run.now ≤ 12 }
-    requires in_bounds { 24 ≤ length strip.old }
-    ensures { strip.new ≡ numbers_of (map stretch_of run.now) ++ drop (2 * length run.now) strip.old }
-{
-    for i in 0..run.len() {
-        strip[2 * i] = run[i].start;
-        strip[2 * i + 1] = run[i].end;
-    }
-}
-
-fn put_zeros(strip: &mut [u32], from: usize)
-    requires from_bound { from ≤ 24 }
-    requires in_bounds { 24 ≤ length strip.old }
-    ensures { strip.new ≡ take from strip.old ++ (replicate (24 - from) 0 ++ drop 24 strip.old) }
-{
-    for k in from..24 {
-        strip[k] = 0;
-    }
-}
-
-// Writes the stretches on the strip, then zeros up to the 24th number.
-fn put_find(strip: &mut [u32], run: &[Stretch])
-    requires few { length run.now ≤ 12 }
-    requires long { 24 ≤ length strip.old }
-    ensures { strip.new ≡ written_list (map stretch_of run.now) strip.old }
-{
-    put_stretches(strip, run);
-    put_zeros(strip, 2 * run.len());
+// Room in which the stretches of a find are put in the rule's order before they are written. It is made once, so that no
+// write wants memory.
+#[derive(Drop)]
+pub struct FindRoom {
+    pub(crate) stretches: Vec<Ends>,
+    ghost few: { vec_len stretches ≤ 12 },
+    ghost enough: { 12 ≤ vec_capacity stretches },
 }
 
 impl FindRoom {
@@ -101,8 +39,45 @@ impl FindRoom {
         if strip.len() < 24 {
             return Err(Refusal::ShortStrip);
         }
-        gather(&mut self.stretches, &search.frames, search.top);
-        put_find(strip, &self.stretches);
+        self.gather(search);
+        put(strip, &self.stretches);
         Ok(())
+    }
+
+    // Puts the stretches of the search's frames in the rule's order.
+    fn gather(&mut self, search: &Search)
+        ensures { map stretch_of self.new.stretches.items ≡ stretches_of (made_of search.now) }
+    {
+        self.stretches.clear();
+        for f in &search.frames {
+            self.add(*f);
+        }
+        self.add(search.top);
+    }
+
+    // Adds the frame's stretch, on its side.
+    fn add(&mut self, f: Frame)
+        requires { vec_len self.old.stretches < 12 }
+        ensures items { map stretch_of self.new.stretches.items ≡ grown_list f.letter (map stretch_of self.old.stretches.items) (stretch_of f.gone) }
+        ensures len { vec_len self.new.stretches ≡ vec_len self.old.stretches + 1 }
+    {
+        match f.letter {
+            Letter::L => self.stretches.insert(0, f.gone).unwrap(),
+            Letter::R => self.stretches.push_reserved(f.gone),
+        }
+    }
+}
+
+// Writes the stretches on the strip, with zeros behind them up to the 24th number.
+fn put(strip: &mut [u32], stretches: &[Ends])
+    requires few { length stretches.now ≤ 12 }
+    requires long { 24 ≤ length strip.old }
+    ensures { strip.new ≡ written_list (map stretch_of stretches.now) strip.old }
+{
+    strip[..24].fill(0);
+    // by index: of what is written through `chunks_exact_mut` a proof learns only the length
+    for (i, s) in stretches.iter().enumerate() {
+        strip[2 * i] = s.start;
+        strip[2 * i + 1] = s.end;
     }
 }
