@@ -1,5 +1,6 @@
 -- What a forecast holds, and why one is not made from a length and numbers.
-use Rattle.std.specs.Prelude.{ℕ, zero, suc, Bool, false, ◌||◌, ltb, None, Option, nat_lt}
+use Rattle.std.specs.Prelude.{ℕ, Bool, List, None, Option, nat_lt}
+use Rattle.std.specs.List.{list_any, range_with_len}
 use Rattle.refusal.specs.Checks.{refuse}
 use Rattle.refusal.specs.declared.Refusal.{Refusal}
 use Rattle.refusal.specs.declared.Refusal.TheVariants.{SourceTooLong, ForecastTooLarge}
@@ -13,17 +14,16 @@ boxes_of f = f.boxes
 abbrev pub forecast_at : Forecast → ℕ → ℕ → ℕ
 forecast_at f i j = number_at f.runs i j
 
--- `any_to test n`        one of the numbers 1 to n passes
-abbrev pub any_to : (ℕ → Bool) → ℕ → Bool
-any_to test zero = false
-any_to test (suc n) = any_to test n || test (suc n)
+-- the numbers that a motif may have
+abbrev pub numbers : List ℕ
+numbers = range_with_len 1 12
 
--- `is_row_large F`          one of F 1 to F 12 is above 1,000,000,000
+-- `is_row_large F`       one of F 1 to F 12 is above 1,000,000,000
 abbrev pub is_row_large : (ℕ → ℕ) → Bool
-is_row_large F = any_to (λ j. ltb 1_000_000_000 (F j)) 12
+is_row_large F = list_any (λ j. nat_lt 1_000_000_000 (F j)) numbers
 
 abbrev pub is_some_large : (ℕ → ℕ → ℕ) → Bool
-is_some_large F = any_to (λ i. is_row_large (F i)) 12
+is_some_large F = list_any (λ i. is_row_large (F i)) numbers
 
 abbrev pub forecast_fault : ℕ → (ℕ → ℕ → ℕ) → Option Refusal
 forecast_fault boxes F = refuse (nat_lt 20000 boxes) SourceTooLong (refuse (is_some_large F) ForecastTooLarge None)

@@ -12,26 +12,17 @@ use refusal::Refusal;
 fn row_large(runs: &Runs, i: usize) -> bool
     ensures { result ≡ is_row_large (number_at runs.now i) }
 {
-    for j in 1..13 {
-        if runs.at(i, j) > 1_000_000_000 {
-            return true;
-        }
-    }
-    false
+    (1..13).any(|j| runs.at(i, j) > 1_000_000_000)
 }
 
 fn some_large(runs: &Runs) -> bool
     ensures { result ≡ is_some_large (number_at runs.now) }
 {
-    for i in 1..13 {
-        if row_large(runs, i) {
-            return true;
-        }
-    }
-    false
+    (1..13).any(|i| row_large(runs, i))
 }
 
 impl Forecast {
+    #[tactic(auto, using(crate::proofs::Cells::all_small))]
     pub fn new(boxes: usize, runs: Runs) -> Result<Forecast, Refusal>
         ensures refused { refused_by result ≡ forecast_fault boxes (number_at runs) }
         ensures value { IfOk result (λ f. (boxes_of f ≡ boxes) × ((i j : ℕ) → forecast_at f i j ≡ number_at runs i j)) }

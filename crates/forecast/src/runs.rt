@@ -1,17 +1,28 @@
 // A number for each run of at most 12 motifs.
-ghost use Rattle.std.specs.Prelude.{◌≡◌, ℕ, cond, ◌&&◌};
+ghost use Rattle.std.specs.Prelude.{◌≡◌, ℕ, ◌<◌, cond, ◌&&◌, ◌==◌, slice_index};
 ghost use Rattle.forecast.specs.Runs.{Put, is_run, number_at};
 
-// Two numbers that are no run have no place in the table, so they read 0 whatever was put.
+// A row for each first motif, and in it a number for each last one. Two numbers that are no run have no place in the
+// table, so they read 0 whatever was put.
 #[derive(Clone, Copy)]
 pub struct Runs {
-    pub(crate) numbers: [u64; 144],
+    pub(crate) rows: [[u64; 12]; 12],
 }
 
+// Two numbers and no struct, as the public calls take any two, also such as are no run.
 fn is_run(i: usize, j: usize) -> bool
     ensures { result ≡ is_run i j }
 {
     1 <= i && i <= j && j <= 12
+}
+
+// The row with the number in its place. Of a cell that is written in place, the proof does not know the row's length.
+fn replaced(mut row: [u64; 12], place: usize, number: u64) -> [u64; 12]
+    requires { place < 12 }
+    ensures { (k : ℕ) → slice_index result k ≡ cond (k == place) number (slice_index row k) }
+{
+    row[place] = number;
+    row
 }
 
 impl Runs {
@@ -19,23 +30,26 @@ impl Runs {
     pub fn zeros() -> Runs
         ensures { (i j : ℕ) → number_at result i j ≡ 0 }
     {
-        Runs { numbers: [0; 144] }
+        Runs {
+            rows: [[0; 12]; 12],
+        }
     }
 
     pub fn at(&self, i: usize, j: usize) -> u64
         ensures { result ≡ number_at self.now i j }
     {
         if is_run(i, j) {
-            return self.numbers[12 * (i - 1) + (j - 1)];
+            return self.rows[i - 1][j - 1];
         }
         0
     }
 
+    #[tactic(auto, using(crate::proofs::Cells::put_run))]
     pub fn put(&mut self, i: usize, j: usize, number: u64)
         ensures { Put i j number self.old self.new }
     {
         if is_run(i, j) {
-            self.numbers[12 * (i - 1) + (j - 1)] = number;
+            self.rows[i - 1] = replaced(self.rows[i - 1], j - 1, number);
         }
     }
 }

@@ -1,5 +1,5 @@
 pub mod Known
 pub mod Weighing
 pub mod Tables
-pub mod Filling
+pub mod Agreeing
 pub mod Answered

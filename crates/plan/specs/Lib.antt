@@ -1,3 +1,2 @@
 pub mod Weighed
 pub mod Answers
-pub mod Charges

@@ -1,11 +1,12 @@
 -- The weighted forecast: what the weights of a rule's motifs make expect of each run, and what weigh answers.
-use Rattle.std.specs.Prelude.{◌≡◌, ℕ, zero, suc, ◌+◌, ◌*◌, ◌/◌, ◌<◌, ◌≤◌, Bool, true, cond, ◌&&◌, ◌||◌, map, length, Some, None, Ok, Err, Option, Result, ◌==◌, nat_le, nat_lt, slice_index}
+use Rattle.std.specs.Prelude.{◌≡◌, ℕ, zero, suc, ◌+◌, ◌*◌, ◌/◌, ◌<◌, ◌≤◌, Bool, true, cond, ◌&&◌, ◌||◌, map, Some, None, Ok, Err, Option, Result, ◌==◌, nat_le, nat_lt, slice_index}
 use Rattle.refusal.specs.Checks.{refuse}
 use Rattle.refusal.specs.declared.Refusal.{Refusal}
 use Rattle.refusal.specs.declared.Refusal.TheVariants.{SourceTooLong, ForecastTooLarge, UnknownRule}
 use Rattle.entry.specs.Rules.{Net, width}
 use Rattle.book.specs.Adding.{motifs_in}
 use Rattle.book.specs.declared.values.book.Book.{Book}
+use Rattle.rules.specs.Nets.{motifs}
 use Rattle.walk.specs.Numbered.{motif, range}
 use Rattle.forecast.specs.declared.runs.Runs.{Runs}
 use Rattle.forecast.specs.declared.value.Forecast.{Forecast}
@@ -27,7 +28,7 @@ weighed_to W n r i (suc j) =
     cond (i == suc j) (expected (W (motif r i)) (n + 1)) (expected (W (motif r (suc j))) (weighed_to W n r i j * width (range r j)))
 
 abbrev pub run_of : Net → ℕ → ℕ → Bool
-run_of r i j = nat_le 1 i && (nat_le i j && nat_le j (length r.rest + 1))
+run_of r i j = nat_le 1 i && (nat_le i j && nat_le j (motifs r))
 
 -- `weighed W n r i j`  F(i, j) of the rule r, 0 where i to j is no run of it
 abbrev pub weighed : (ℕ → ℕ) → ℕ → Net → ℕ → ℕ → ℕ
@@ -47,7 +48,7 @@ Weighed W n (Some r) f = (boxes_of f ≡ n) × ((i j : ℕ) → forecast_at f i 
 
 -- every motif of the rule is one of `count`
 abbrev pub Known : ℕ → Net → Type 0
-Known count r = (i : ℕ) → 1 ≤ i → i ≤ length r.rest + 1 → motif r i < count
+Known count r = (i : ℕ) → 1 ≤ i → i ≤ motifs r → motif r i < count
 
 -- a run that begins before `first`, or begins with it and ends before `last`
 abbrev pub sooner : ℕ → ℕ → ℕ → ℕ → Bool

@@ -24,13 +24,8 @@ pub fn price<S: PricedSource>(
 ) -> Result<u64, Refusal>
     ensures { PriceAnswer (priced (S.Source.means source.now) (S.PricedSource.price source.now)) (rule_numbered (nets_in book.now) rule) (order_of order.entry) forecast.now result }
 {
-    let Some(rule) = rule_at(book, rule) else {
-        return Err(Refusal::UnknownRule);
-    };
-    match price_by(&tariff_of(rule, source), forecast, order) {
-        Some(price) => Ok(price),
-        None => Err(Refusal::BadOrder),
-    }
+    let rule = rule_at(book, rule).ok_or(Refusal::UnknownRule)?;
+    price_by(&tariff_of(rule, source), forecast, order).ok_or(Refusal::BadOrder)
 }
 
 // The planned order: the cheapest by the forecast; among equals the one with the smallest seed, and then the one with R
@@ -44,8 +39,6 @@ pub fn plan<S: PricedSource>(
     ensures value { PlanAnswer (priced (S.Source.means source.now) (S.PricedSource.price source.now)) (rule_numbered (nets_in book.now) rule) forecast.now result }
     ensures only { IfOk result (PlansOnly (priced (S.Source.means source.now) (S.PricedSource.price source.now)) (rule_numbered (nets_in book.now) rule) forecast.now) }
 {
-    let Some(rule) = rule_at(book, rule) else {
-        return Err(Refusal::UnknownRule);
-    };
+    let rule = rule_at(book, rule).ok_or(Refusal::UnknownRule)?;
     Ok(cheapest(&tariff_of(rule, source), forecast))
 }

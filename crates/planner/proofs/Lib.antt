@@ -1,7 +1,8 @@
+pub mod Steps
 pub mod Best
+pub mod Extend
 pub mod Table
 pub mod Whole
-pub mod Walked
 pub mod Laws
 pub mod Agreement
 pub mod Only

@@ -1,40 +1,30 @@
 -- The planner's table: a write leaves what is known elsewhere, and what is known where it was made.
-use Rattle.std.proofs.Common.{◌≡◌, ℕ, ◌+◌, ◌-◌, ◌*◌, ◌<◌, ◌≤◌, Bool, true, false, cond, ◌&&◌, eqb, [], sym, refl, ◌∙◌, subst, ⊎_elim, arith}
+use Rattle.std.proofs.Common.{Some, None, Option, MatchOption, ◌≡◌, ℕ, ◌+◌, ◌-◌, ◌*◌, ◌<◌, ◌≤◌, true, false, ◌&&◌, eqb, [], sym, refl, subst, ⊎_elim, arith}
 use Rattle.std.proofs.lemmas.Bool.{cases_lt}
 use Rattle.std.proofs.lemmas.Bool.Decides.{nat_tests}
 use Rattle.forecast.specs.declared.runs.Runs.{Runs}
 use Rattle.forecast.specs.Runs.{Put, is_run, number_at}
-use Rattle.walk.specs.declared.letter.Letter.{Letter}
 use Rattle.walk.specs.declared.letter.Letter.TheVariants.{L, R}
+use Rattle.planner.specs.declared.plan.Next.{Next}
 use Rattle.planner.specs.Orders.{Terms}
-use Rattle.planner.specs.Best.{Least, Leads, Known, Rows, Row, most}
-use Rattle.planner.proofs.Best.{least_L, least_R, whole}
+use Rattle.planner.specs.Best.{Ahead, Least, Known, Rows, Row, most}
+use Rattle.planner.specs.Ways.{Extends}
+use Rattle.planner.proofs.Best.{led, whole}
 
-module _ (t : Terms) (costs : ℕ → ℕ → ℕ) (i j : ℕ) where
-  -- the least price once a letter is taken gives that before it
-  pub led : (x : Letter) (c : ℕ) → Leads t i j x c → (2 ≤ i → Known t costs (i - 1) j) → (j + 1 ≤ t.motifs → Known t costs i (j + 1)) → Least t i j c
-  led L c h left right = least_L t i j h (left h.0).least
-  led R c h left right = least_R t i j h (right h.0).least
+-- the runs that a letter makes of one are in the rows before, or behind it in its own
+pub ahead : (t : Terms) (costs : ℕ → ℕ → ℕ) (i j : ℕ) → 1 ≤ i → i ≤ j → j ≤ t.motifs → Rows t costs i → Row t costs i (j + 1) → Ahead t costs i j
+ahead t costs i j some ordered within rows row L may = rows (i - 1) j (omega (arith, may.0)) (omega (arith, may.0)) (omega arith) within
+ahead t costs i j some ordered within rows row R may = row (j + 1) (omega arith) may
 
-  pub ended : i ≡ 1 → j ≡ t.motifs → Least t i j 0
-  ended z e = subst (λ k. Least t k j 0) (sym z) (record { letters = []; best = whole j e; cost = refl })
+pub ended : {t : Terms} {i j : ℕ} → i ≡ 1 → j ≡ t.motifs → Least t i j 0
+ended e h = record { letters = []; best = whole e h; cost = refl }
 
 module _ (before after : Runs) (i j x : ℕ) (put : Put i j x before after) where
   put_other : (k l : ℕ) → (eqb k i && eqb l j) ≡ false → number_at after k l ≡ number_at before k l
-  put_other k l off = put k l ∙ go (is_run i j) (eqb k i && eqb l j) off
-    where
-      go : (a b : Bool) → b ≡ false → cond (a && b) x (number_at before k l) ≡ number_at before k l
-      go true false e = refl
-      go false false e = refl
-      go a true e = absurd (mathlib.Core.Bool.true≢false e)
+  put_other k l off = let here = put k l in grind (arith, nat_tests)
 
-  put-here : is_run i j ≡ true → (eqb i i && eqb j j) ≡ true → number_at after i j ≡ x
-  put-here run on = put i j ∙ go (is_run i j) (eqb i i && eqb j j) run on
-    where
-      go : (a b : Bool) → a ≡ true → b ≡ true → cond (a && b) x (number_at before i j) ≡ x
-      go true true e f = refl
-      go false b e f = absurd (mathlib.Core.Bool.true≢false (sym e))
-      go true false e f = absurd (mathlib.Core.Bool.true≢false (sym f))
+  put_here : is_run i j ≡ true → number_at after i j ≡ x
+  put_here run = let here = put i j in grind (arith, nat_tests)
 
   module _ (t : Terms) where
     kept : (k l : ℕ) → (eqb k i && eqb l j) ≡ false → Known t (number_at before) k l → Known t (number_at after) k l
@@ -57,7 +47,7 @@ module _ (before after : Runs) (i j x : ℕ) (put : Put i j x before after) wher
         here : l ≤ j → Known t (number_at after) i l
         here ge =
             let e : j ≡ l = omega arith in
-            let is = put-here run (grind (arith, nat_tests)) in
+            let is = put_here run in
             subst (Known t (number_at after) i) e (record { least = subst (Least t i j) (sym is) least; bound = omega (arith, is) })
 
 pub rows_more : (t : Terms) (costs : ℕ → ℕ → ℕ) (first last : ℕ) → Rows t costs first → Row t costs first last → last ≤ first → Rows t costs (first + 1)
@@ -68,3 +58,8 @@ rows_more t costs first last rows row end i j some lt le within = ⊎_elim befor
 
     here : first ≤ i → Known t costs i j
     here h = let e : first ≡ i = omega arith in subst (λ x. Known t costs x j) e (row j (omega arith) within)
+
+-- the price of the best way on, 0 where there is none, is the least price
+pub least_of : (t : Terms) (costs : ℕ → ℕ → ℕ) (i j p : ℕ) (o : Option Next) → Ahead t costs i j → Extends t i j o → MatchOption o (p ≡ 0) (λ n. p ≡ n.price) → Least t i j p × (p ≤ most * (i - 1 + (t.motifs - j)))
+least_of t costs i j p None next end is = (subst (Least t i j) (sym is) (ended end.0 end.1), omega arith)
+least_of t costs i j p (Some n) next lead is = (subst (Least t i j) (sym is) (led t i j n.letter lead.0 (next n.letter lead.0.0).least), omega (arith, lead.1))

@@ -1,8 +1,8 @@
 -- The letters that best take a run to the whole rule: what the planner's inner functions speak of.
 use Rattle.std.specs.Prelude.{◌≡◌, ℕ, ◌+◌, ◌-◌, ◌*◌, ◌<◌, ◌≤◌, ◌⊎◌, List, ◌∷◌, ◌++◌}
 use Rattle.walk.specs.declared.letter.Letter.{Letter}
-use Rattle.walk.specs.declared.letter.Letter.TheVariants.{L, R}
 use Rattle.planner.specs.Orders.{Terms, Completes, Earlier, price_of_letters}
+use Rattle.planner.specs.Runs.{Can, first_after, last_after}
 
 abbrev pub Better : Terms → ℕ → ℕ → List Letter → List Letter → Type 0
 Better t i j ls ms = (price_of_letters t i j ls < price_of_letters t i j ms) ⊎ ((price_of_letters t i j ls ≡ price_of_letters t i j ms) × Earlier ls ms)
@@ -19,18 +19,13 @@ pub record Least (t : Terms) (i j c : ℕ) : Type 0 where
 
 -- x is the first letter of the best way on, at the price c
 abbrev pub Leads : Terms → ℕ → ℕ → Letter → ℕ → Type 0
-Leads t i j L c = (2 ≤ i) × ((ls : List Letter) → Best t (i - 1) j ls → Best t i j (L ∷ ls) × (price_of_letters t i j (L ∷ ls) ≡ c))
-Leads t i j R c = (j + 1 ≤ t.motifs) × ((ls : List Letter) → Best t i (j + 1) ls → Best t i j (R ∷ ls) × (price_of_letters t i j (R ∷ ls) ≡ c))
-
--- the letter has a motif to take, of m
-abbrev pub Can : ℕ → ℕ → ℕ → Letter → Type 0
-Can m i j L = 2 ≤ i
-Can m i j R = j + 1 ≤ m
+Leads t i j x c =
+    Can t.motifs i j x
+    × ((ls : List Letter) → Best t (first_after i x) (last_after j x) ls → Best t i j (x ∷ ls) × (price_of_letters t i j (x ∷ ls) ≡ c))
 
 -- what a table says of the run once the letter is taken
 abbrev pub once_taken : (ℕ → ℕ → ℕ) → ℕ → ℕ → Letter → ℕ
-once_taken costs i j L = costs (i - 1) j
-once_taken costs i j R = costs i (j + 1)
+once_taken costs i j x = costs (first_after i x) (last_after j x)
 
 -- the most that a letter can cost: a forecast of 1,000,000,000, an opening of 1,000 and 4,001 looks of 1,000
 abbrev pub most : ℕ
@@ -40,6 +35,10 @@ most = 1_000_000_000 * 4_002_000
 pub record Known (t : Terms) (costs : ℕ → ℕ → ℕ) (i j : ℕ) : Type 0 where
   pub least : Least t i j (costs i j)
   pub bound : costs i j ≤ most * (i - 1 + (t.motifs - j))
+
+-- it has that at each run that a letter makes of the run i to j
+abbrev pub Ahead : Terms → (ℕ → ℕ → ℕ) → ℕ → ℕ → Type 0
+Ahead t costs i j = (x : Letter) → Can t.motifs i j x → Known t costs (first_after i x) (last_after j x)
 
 -- it has that at each run that begins before `first`
 abbrev pub Rows : Terms → (ℕ → ℕ → ℕ) → ℕ → Type 0

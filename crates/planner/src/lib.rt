@@ -3,14 +3,12 @@
 
 ghost use Rattle.planner.specs.Laws.{AllowedCompletes, CountedPrice, OnlyOne, SamePlan, SamePrices};
 
-pub mod letters;
 pub mod plan;
 pub mod planned;
 pub mod price;
-mod reads;
+mod run;
 pub mod tariff;
 
-pub use self::letters::Letters;
 pub use self::plan::cheapest;
 pub use self::planned::Planned;
 pub use self::price::price_by;

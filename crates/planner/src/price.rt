@@ -1,110 +1,99 @@
-// What an order costs, whoever made it up.
-ghost use Rattle.std.specs.Prelude.{◌≡◌, ◌+◌, ◌*◌, ◌≤◌, Decides};
-ghost use Rattle.planner.specs.Best.{Can, most};
-ghost use Rattle.planner.specs.Orders.{Asked, Completes, price_of_letter, price_of_letters};
-ghost use Rattle.planner.specs.Terms.{look_of, opening_of, terms_of, width_of};
+// What prices are made from, and what an order costs by it, whoever made the order up.
+ghost use Rattle.planner.specs.Orders.{Asked};
+ghost use Rattle.planner.specs.Terms.{terms_of};
 ghost use Rattle.walk.specs.Asked.{order_of};
-ghost use Rattle.walk.specs.Walk.{lefts, rights};
 
+use crate::run::Run;
 use crate::tariff::Tariff;
 use forecast::Forecast;
 use walk::{Letter, Order};
 
-// What a look for the motif costs.
-pub(crate) fn look_price(tariff: &Tariff, motif: usize) -> u64
-    requires some { 1 ≤ motif }
-    requires within { motif ≤ tariff.now.motifs }
-    ensures value { result ≡ look_of tariff.now motif }
-    ensures bound { result ≤ 1000 }
-{
-    tariff.charges[motif - 1].look
+// The prices and the widths of a rule, and what is forecast of it.
+#[derive(Clone, Copy)]
+pub(crate) struct Pricing<'a> {
+    pub(crate) tariff: &'a Tariff,
+    pub(crate) forecast: &'a Forecast,
 }
 
-// What it costs to take the motif over the range, once.
-fn taking_price(tariff: &Tariff, motif: usize, range: usize) -> u64
-    requires some { 1 ≤ motif }
-    requires within { motif ≤ tariff.now.motifs }
-    requires over { 1 ≤ range }
-    requires between { range + 1 ≤ tariff.now.motifs }
-    ensures value { result ≡ opening_of tariff.now motif + width_of tariff.now range * look_of tariff.now motif }
-    ensures bound { result ≤ 4_002_000 }
-{
-    let taken = tariff.charges[motif - 1];
-    taken.opening + tariff.widths[range - 1].places * taken.look
-}
+impl Pricing<'_> {
+    ghost use Rattle.std.specs.Prelude.{◌≡◌, ◌+◌, ◌*◌, ◌≤◌};
+    ghost use Rattle.planner.specs.Best.{most};
+    ghost use Rattle.planner.specs.Orders.{Asked, Completes, price_of_letter, price_of_letters, taking};
+    ghost use Rattle.planner.specs.Runs.{Can};
+    ghost use Rattle.planner.specs.Terms.{terms};
+    ghost use Rattle.walk.specs.Asked.{order_of};
 
-// What the letter costs after the run first to last.
-pub(crate) fn letter_price(
-    tariff: &Tariff,
-    forecast: &Forecast,
-    first: usize,
-    last: usize,
-    letter: Letter,
-) -> u64
-    requires some { 1 ≤ first }
-    requires ordered { first ≤ last }
-    requires within { last ≤ tariff.now.motifs }
-    requires can { Can tariff.now.motifs first last letter }
-    ensures value { result ≡ price_of_letter (terms_of tariff.now forecast.now) first last letter }
-    ensures bound { result ≤ most }
-{
-    let taking = match letter {
-        Letter::L => taking_price(tariff, first - 1, first - 1),
-        Letter::R => taking_price(tariff, last + 1, last),
-    };
-    forecast.at(first, last) * taking
-}
-
-// What the letters cost from the run of the seed alone on.
-fn letters_price(tariff: &Tariff, forecast: &Forecast, seed: usize, letters: &[Letter]) -> u64
-    requires { Completes (terms_of tariff.now forecast.now) seed seed letters.now }
-    ensures value { result ≡ price_of_letters (terms_of tariff.now forecast.now) seed seed letters.now }
-    ensures bound { result ≤ most * 11 }
-{
-    let mut price = 0;
-    let mut first = seed;
-    let mut last = seed;
-    for letter in letters {
-        price += letter_price(tariff, forecast, first, last, *letter);
-        match letter {
-            Letter::L => first -= 1,
-            Letter::R => last += 1,
-        }
+    // How many motifs the rule has.
+    pub(crate) fn motifs(&self) -> usize
+        ensures value { result ≡ (terms self.now).motifs }
+        ensures some { 1 ≤ result }
+        ensures few { result ≤ 12 }
+    {
+        self.tariff.motifs()
     }
-    price
-}
 
-// How many letters are L, and how many are R.
-fn tally(letters: &[Letter]) -> (usize, usize)
-    ensures left { result.0 ≡ lefts letters.now }
-    ensures right { result.1 ≡ rights letters.now }
-{
-    let mut left = 0;
-    let mut right = 0;
-    for letter in letters {
-        match letter {
-            Letter::L => left += 1,
-            Letter::R => right += 1,
-        }
+    // What the looks for a seed cost: one at each place of the row.
+    pub(crate) fn seed_price(&self, seed: usize) -> u64
+        requires some { 1 ≤ seed }
+        requires within { seed ≤ (terms self.now).motifs }
+        ensures value { result ≡ ((terms self.now).boxes + 1) * (terms self.now).look seed }
+        ensures bound { result ≤ 20001 * 1000 }
+    {
+        (self.forecast.length() as u64 + 1) * self.tariff.charge(seed).look
     }
-    (left, right)
-}
 
-// Whether the seed and the letters are an order of the tariff's rule.
-fn is_order(tariff: &Tariff, seed: usize, letters: &[Letter]) -> bool
-    ensures { (f : Forecast) → Decides result (Completes (terms_of tariff.now f) seed seed letters.now) }
-{
-    let (left, right) = tally(letters);
-    1 <= seed && seed <= tariff.motifs && left == seed - 1 && right == tariff.motifs - seed
+    // What it costs to take the motif over the range, once.
+    fn taking_price(&self, motif: usize, range: usize) -> u64
+        requires some { 1 ≤ motif }
+        requires within { motif ≤ (terms self.now).motifs }
+        requires over { 1 ≤ range }
+        requires between { range + 1 ≤ (terms self.now).motifs }
+        ensures value { result ≡ taking (terms self.now) motif range }
+        ensures bound { result ≤ 4_002_000 }
+    {
+        let taken = self.tariff.charge(motif);
+        taken.opening + self.tariff.places(range) * taken.look
+    }
+
+    // What the letter costs after the run.
+    pub(crate) fn letter_price(&self, run: Run, letter: Letter) -> u64
+        requires { Can (terms self.now).motifs run.first run.last letter }
+        ensures value { result ≡ price_of_letter (terms self.now) run.first run.last letter }
+        ensures bound { result ≤ most }
+    {
+        let (motif, range) = run.taken(letter);
+        self.forecast.at(run.first, run.last) * self.taking_price(motif, range)
+    }
+
+    // What the letters of an order cost from the run of its seed alone on.
+    fn letters_price(&self, order: Order<'_>) -> u64
+        requires { Completes (terms self.now) order.seed order.seed order.letters.now }
+        ensures value { result ≡ price_of_letters (terms self.now) (order_of order.entry).seed (order_of order.entry).seed (order_of order.entry).letters }
+        ensures bound { result ≤ most * 11 }
+    {
+        let mut price = 0;
+        let mut run = Run::alone(order.seed);
+        for &letter in order.letters {
+            price += self.letter_price(run, letter);
+            run = run.after(letter);
+        }
+        price
+    }
+
+    // The price of an order, `None` where the rule has no such order.
+    pub(crate) fn price(&self, order: Order<'_>) -> Option<u64>
+        ensures { Asked (terms self.now) (order_of order.entry).seed (order_of order.entry).letters result }
+    {
+        if !order.is_of(self.motifs()) {
+            return None;
+        }
+        Some(self.seed_price(order.seed) + self.letters_price(order))
+    }
 }
 
 // The price of an order by a tariff, `None` where the tariff's rule has no such order.
 pub fn price_by(tariff: &Tariff, forecast: &Forecast, order: Order<'_>) -> Option<u64>
     ensures { Asked (terms_of tariff.now forecast.now) (order_of order.entry).seed (order_of order.entry).letters result }
 {
-    if !is_order(tariff, order.seed, order.letters) {
-        return None;
-    }
-    let seeded = (forecast.length() as u64 + 1) * look_price(tariff, order.seed);
-    Some(seeded + letters_price(tariff, forecast, order.seed, order.letters))
+    Pricing { tariff, forecast }.price(order)
 }

@@ -1,5 +1,8 @@
 // What the prices of a rule's orders are made from, beside the forecast.
-ghost use Rattle.std.specs.Prelude.{◌≤◌};
+ghost use Rattle.std.specs.Prelude.{◌≡◌, ◌+◌, ◌≤◌, length};
+ghost use Rattle.few.specs.Few.{entries};
+
+use few::Few;
 
 // What a motif costs: each look, and the first look of a step on top.
 #[derive(Clone, Copy)]
@@ -19,12 +22,43 @@ pub struct Width {
     ghost few: { places ≤ 4001 },
 }
 
-// The charges of 1 to 12 motifs and the widths of the ranges between them. What stands behind the last is not read.
+// The charges of the motifs, at least one, and the widths of the ranges between them.
 #[derive(Clone, Copy)]
 pub struct Tariff {
-    pub charges: [Charge; 12],
-    pub widths: [Width; 11],
-    pub motifs: usize,
-    ghost some: { 1 ≤ motifs },
-    ghost few: { motifs ≤ 12 },
+    pub charges: Few<Charge, 12>,
+    pub widths: Few<Width, 11>,
+    ghost some: { 1 ≤ length (entries charges) },
+    ghost joined: { length (entries widths) + 1 ≡ length (entries charges) },
+}
+
+impl Tariff {
+    ghost use Rattle.planner.specs.Terms.{look_of, motifs_in, opening_of, width_of};
+
+    pub(crate) fn motifs(&self) -> usize
+        ensures value { result ≡ motifs_in self.now }
+        ensures some { 1 ≤ result }
+        ensures few { result ≤ 12 }
+    {
+        self.charges.as_slice().len()
+    }
+
+    // What the motif costs.
+    pub(crate) fn charge(&self, motif: usize) -> Charge
+        requires some { 1 ≤ motif }
+        requires within { motif ≤ motifs_in self.now }
+        ensures look { result.look ≡ look_of self.now motif }
+        ensures opening { result.opening ≡ opening_of self.now motif }
+    {
+        self.charges.as_slice()[motif - 1]
+    }
+
+    // How many places the range allows.
+    pub(crate) fn places(&self, range: usize) -> u64
+        requires some { 1 ≤ range }
+        requires between { range + 1 ≤ motifs_in self.now }
+        ensures value { result ≡ width_of self.now range }
+        ensures bound { result ≤ 4001 }
+    {
+        self.widths.as_slice()[range - 1].places
+    }
 }

@@ -1,23 +1,20 @@
-use Rattle.std.proofs.Common.{Ok, subst}
 use Rattle.entry.specs.Rules.{net_of}
+use Rattle.rules.specs.Nets.{nets_in}
 use Rattle.source.specs.Meaning.{priced}
-use Rattle.planner.specs.Letters.{letters_of}
-use Rattle.planner.specs.Orders.{IsPlanned}
-use Rattle.planner.specs.Terms.{terms_by, terms_of}
-use Rattle.planner.proofs.Agreement.{same-plan}
-use Rattle.planner.proofs.Only.{only_one}
-use Rattle.plan.specs.Answers.{PlanAnswer, PlansOnly}
+use Rattle.walk.specs.Asked.{rule_numbered}
+use Rattle.planner.specs.Terms.{terms_of}
+use Rattle.plan.proofs.Answered.{planned_alone, planned_answer}
 use Rattle.plan.proofs.plans.plan.Goals as goal
 
 pub returns : goal.returns
 returns g c =
     let P = priced (g.S.Source.means c.args.source.now) (g.S.PricedSource.price c.args.source.now) in
     let f = c.args.forecast.now in
-    let p = c.cheapest.result in
-    let terms = terms_by P (net_of c.in-Some.rule.now) f in
-    let planned : IsPlanned terms p.seed (letters_of p.letters) p.price =
-    same-plan (terms_of c.tariff_of.result f) terms (c.tariff_of.ensures f) p.seed (letters_of p.letters) p.price c.cheapest.ensures in
+    let r = net_of c.in_ok-rule.rule.now in
+    let t = terms_of c.tariff_of.result f in
+    let asked = rule_numbered (nets_in c.args.book.now) c.args.rule in
+    let is = rw c.in_ok-rule.ensures.ok_part at c.rule_at.ensures in
     record {
-      value = subst (λ r. PlanAnswer P r f (Ok p)) c.in-Some.ensures planned;
-      only = subst (λ r. PlansOnly P r f p) c.in-Some.ensures (only_one terms p.seed (letters_of p.letters) p.price planned);
+      value = planned_answer P r f t (c.tariff_of.ensures f) asked is c.cheapest.result c.cheapest.ensures;
+      only = planned_alone P r f t (c.tariff_of.ensures f) asked is c.cheapest.result c.cheapest.ensures;
     }

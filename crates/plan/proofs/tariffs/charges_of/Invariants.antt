@@ -1,7 +1,9 @@
-use Rattle.std.proofs.Common.{◌≡◌, length}
-use Rattle.entry.specs.Rules.{net_of}
-use Rattle.plan.specs.Charges.{Charged}
+use Rattle.std.proofs.Common.{◌≡◌, map, take}
+use Rattle.few.specs.Few.{entries}
+use Rattle.entry.specs.Rules.{motifs_of}
 use Rattle.plan.proofs.tariffs.charges_of.Given as goal
 
-abbrev pub invariant-loop-i : goal.invariant-loop-i
-invariant-loop-i g l = (length l.charges ≡ 12) × Charged (g.S.PricedSource.price l.source) (net_of l.rule) l.i l.charges
+abbrev pub invariant-loop-motif : goal.invariant-loop-motif
+invariant-loop-motif g l =
+    (map (λ c. c.look) (entries l.charges) ≡ map (λ m. (g.S.PricedSource.price l.source m).look) (take l.motif-index (motifs_of l.rule)))
+    × (map (λ c. c.opening) (entries l.charges) ≡ map (λ m. (g.S.PricedSource.price l.source m).opening) (take l.motif-index (motifs_of l.rule)))

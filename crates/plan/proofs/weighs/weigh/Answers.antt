@@ -1,9 +1,8 @@
-use Rattle.std.proofs.Common.{subst}
 use Rattle.entry.specs.Rules.{net_of}
 use Rattle.rules.specs.Nets.{nets_in}
 use Rattle.walk.specs.Asked.{rule_numbered}
 use Rattle.plan.specs.Weighed.{weight_in}
-use Rattle.plan.proofs.Answered.{WeighAnswer, too_many, weighed_ok}
+use Rattle.plan.proofs.Answered.{too_many, weighed_ok}
 use Rattle.plan.proofs.Known.{known_in}
 use Rattle.plan.proofs.weighs.weigh.Goals as goal
 
@@ -11,15 +10,14 @@ pub returns-then-boxes-gt20000 : goal.returns-then-boxes-gt20000
 returns-then-boxes-gt20000 c =
     record { refused = too_many (weight_in c.args.book.now) c.args.boxes (rule_numbered (nets_in c.args.book.now) c.args.rule) c.if-boxes-gt20000.true; value = tt }
 
-pub weigh_runs-requires : goal.weigh_runs-requires
-weigh_runs-requires c =
-    record { short = c.if-boxes-gt20000.false; known = known_in c.args.book.now c.args.rule (net_of c.in-Some.rule.now) c.in-Some.ensures }
+pub invariant_of-weighing : goal.invariant_of-weighing
+invariant_of-weighing c =
+    record { short = c.if-boxes-gt20000.false; known = known_in c.args.book.now c.args.rule (net_of c.in_ok-rule.rule.now) (rw c.in_ok-rule.ensures.ok_part at c.rule_at.ensures) }
 
-pub returns-in_ok-runs-in-Some : goal.returns-in_ok-runs-in-Some
-returns-in_ok-runs-in-Some c =
+pub returns : goal.returns
+returns c =
     let W = weight_in c.args.book.now in
-    let n = c.args.boxes in
-    let x = c.new.result in
-    let h = subst (λ r. WeighAnswer W n r x) c.in-Some.ensures
-    (weighed_ok W n (net_of c.in-Some.rule.now) c.in_ok-runs-in-Some.runs c.if-boxes-gt20000.false c.in_ok-runs-in-Some.ensures x c.new.ensures.refused c.new.ensures.value) in
-    record { refused = h.0; value = h.1 }
+    let asked = rule_numbered (nets_in c.args.book.now) c.args.rule in
+    let answer = weighed_ok W c.args.boxes (net_of c.in_ok-rule.rule.now) c.in_ok-runs.field-0 c.if-boxes-gt20000.false c.in_ok-runs.ensures asked
+    (rw c.in_ok-rule.ensures.ok_part at c.rule_at.ensures) c.new.result c.new.ensures.refused c.new.ensures.value in
+    record { refused = answer.refused; value = answer.value }
