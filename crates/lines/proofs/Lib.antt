@@ -1,5 +1,1 @@
-mod Laid
-mod Passes
-mod Decimals
-mod Closed
-mod Orders
+pub mod Passes

@@ -1,5 +1,5 @@
--- The fields of a line as the code holds them, and the two passes over them: one that measures, one that writes.
-use Rattle.std.specs.Prelude.{◌≡◌, ℕ, ◌+◌, ◌<◌, List, ◌∷◌, ◌++◌, map, length, take, drop, Some, None, decimal, Option}
+-- The fields of a line as the code holds them, and how they lie over bytes.
+use Rattle.std.specs.Prelude.{◌≡◌, ℕ, ◌+◌, List, ◌∷◌, ◌++◌, map, length, take, drop, decimal}
 use Rattle.walk.specs.Asked.{order_of}
 use Rattle.lines.specs.Lines.{commaed, order_text}
 use Rattle.lines.specs.declared.field.Field.{Field}
@@ -12,16 +12,12 @@ field_text (Number n) = 44 ∷ decimal n
 field_text (Looks o) = 44 ∷ order_text (order_of o)
 field_text (Numbers ns) = commaed (map decimal ns.now)
 
--- `Leaves room count r`  what is left of the room behind so many bytes, if they fit
-abbrev pub Leaves : ℕ → ℕ → Option ℕ → Type 0
-Leaves room count None = room < count
-Leaves room count (Some left) = left + count ≡ room
-
 -- `laid at text before`  the bytes with the text put over them from a place on
 abbrev pub laid : ℕ → List ℕ → List ℕ → List ℕ
 laid at text before = take at before ++ (text ++ drop (at + length text) before)
 
--- `Put at text before after end`  the text was put there, and ends there
+-- `Put at text before after end`  the text was put there, and ends there; the bytes are as many as they were
 pub record Put (at : ℕ) (text before after : List ℕ) (end : ℕ) : Type 0 where
   pub bytes : after ≡ laid at text before
   pub ends : end ≡ at + length text
+  pub same : length after ≡ length before

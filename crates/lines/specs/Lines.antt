@@ -1,5 +1,5 @@
 -- The lines that are printed, as lists of bytes.
-use Rattle.std.specs.Prelude.{ℕ, List, [], ◌∷◌, ◌++◌, map, codes, decimal}
+use Rattle.std.specs.Prelude.{ℕ, List, [], ◌∷◌, ◌++◌, map, decimal}
 use Rattle.std.specs.List.{flat_map}
 use Rattle.entry.specs.Named.{letters_of}
 use Rattle.entry.specs.declared.name.Name.{Name}
@@ -8,8 +8,8 @@ use Rattle.refusal.specs.declared.Refusal.{Refusal}
 use Rattle.walk.specs.Walk.{Order}
 use Rattle.walk.specs.declared.letter.Letter.{Letter}
 use Rattle.walk.specs.declared.letter.Letter.TheVariants.{L, R}
-use Rattle.lines.specs.declared.layer.Layer.{Layer}
-use Rattle.lines.specs.declared.layer.Layer.TheVariants.{Word, Line, Text, Marks, Plan, Sheet}
+use Rattle.refusal.specs.Layers.{layer_text}
+use Rattle.refusal.specs.declared.layer.Layer.{Layer}
 
 -- `commaed fs`     the fields, each behind a comma
 abbrev pub commaed : List (List ℕ) → List ℕ
@@ -27,14 +27,6 @@ letter_byte R = 82
 -- `order_text o`    the seed in decimal and the letters, with nothing between
 abbrev pub order_text : Order → List ℕ
 order_text o = decimal o.seed ++ map letter_byte o.letters
-
-abbrev pub layer_text : Layer → List ℕ
-layer_text Word = codes "word"
-layer_text Line = codes "line"
-layer_text Text = codes "text"
-layer_text Marks = codes "marks"
-layer_text Plan = codes "plan"
-layer_text Sheet = codes "sheet"
 
 -- `p,NAME,ORDER,PRICE`
 abbrev pub plan_line : Name → Order → ℕ → List ℕ

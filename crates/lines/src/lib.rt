@@ -6,12 +6,12 @@
 //     let len = write_fault(out, Refusal::BadShape, Layer::Line, 2, 10)?;    // x,6,line,2,10
 #![tactic(auto)]
 
-mod decimal;
+mod cursor;
 pub(crate) mod field;
-pub mod layer;
 mod put;
 mod room;
+mod sink;
 pub mod write;
 
-pub use self::layer::Layer;
 pub use self::write::{write_end, write_fault, write_find, write_plan};
+pub use refusal::Layer;

@@ -1,15 +1,18 @@
-// The pass that writes: each call puts its field, with the comma before it, where the last one ended, and answers
-// where the next begins.
-ghost use Rattle.std.specs.Prelude.{◌≡◌, ◌+◌, ◌≤◌, ◌∷◌, map, length, decimal};
-ghost use Rattle.lines.specs.Fields.{Put, field_text};
+// The pass over a line: each field is put into a sink behind its comma.
+ghost use Rattle.std.specs.Prelude.{◌≡◌, [], ◌∷◌, ◌++◌, map, decimal};
+ghost use Rattle.lines.specs.Fields.{field_text};
 ghost use Rattle.lines.specs.Lines.{commaed, letter_byte, order_text};
+ghost use Rattle.lines.specs.Sinks.{Puts};
 ghost use Rattle.std.specs.List.{flat_map};
 ghost use Rattle.walk.specs.Asked.{order_of};
 
-use crate::decimal::put_digits;
 use crate::field::Field;
+use crate::sink::Sink;
+use itoa::Buffer;
+use refusal::Refusal;
 use walk::{Letter, Order};
 
+// A `From` would have to stand in the crate of `Letter`, which knows no lines.
 fn letter_byte(letter: Letter) -> u8
     ensures { result ≡ letter_byte letter }
 {
@@ -19,74 +22,70 @@ fn letter_byte(letter: Letter) -> u8
     }
 }
 
-fn put_text(out: &mut [u8], at: usize, bytes: &[u8]) -> usize
-    requires { at + (1 + length bytes.now) ≤ length out.old }
-    ensures { Put at (44 ∷ bytes.now) out.old out.new result }
+fn put_text<S: Sink>(sink: &mut S, text: &[u8]) -> Result<(), Refusal>
+    ensures { Puts S.room S.took sink.old (44 ∷ text.now) result sink.new }
 {
-    out[at] = b',';
-    let end = at + 1 + bytes.len();
-    out[at + 1..end].copy_from_slice(bytes);
-    end
+    sink.put(b",")?;
+    sink.put(text)
 }
 
-fn put_number(out: &mut [u8], at: usize, n: u64) -> usize
-    requires { at + (1 + length (decimal n)) ≤ length out.old }
-    ensures { Put at (44 ∷ decimal n) out.old out.new result }
+fn put_number<S: Sink>(sink: &mut S, n: u64) -> Result<(), Refusal>
+    ensures { Puts S.room S.took sink.old (44 ∷ decimal n) result sink.new }
 {
-    out[at] = b',';
-    put_digits(out, at + 1, n)
+    put_text(sink, Buffer::new().format(n).as_bytes())
 }
 
-fn put_letters(out: &mut [u8], at: usize, letters: &[Letter]) -> usize
-    requires { at + length letters.now ≤ length out.old }
-    ensures { Put at (map letter_byte letters.now) out.old out.new result }
+fn put_letters<S: Sink>(sink: &mut S, letters: &[Letter]) -> Result<(), Refusal>
+    ensures { Puts S.room S.took sink.old (map letter_byte letters.now) result sink.new }
 {
-    let mut end = at;
     for letter in letters {
-        out[end] = letter_byte(*letter);
-        end += 1;
+        sink.put(&[letter_byte(*letter)])?;
     }
-    end
+    Ok(())
 }
 
-fn put_order(out: &mut [u8], at: usize, order: Order<'_>) -> usize
-    requires { at + (1 + length (order_text (order_of order))) ≤ length out.old }
-    ensures { Put at (44 ∷ order_text (order_of order.entry)) out.old out.new result }
+fn put_order<S: Sink>(sink: &mut S, order: Order<'_>) -> Result<(), Refusal>
+    ensures { Puts S.room S.took sink.old (44 ∷ order_text (order_of order.entry)) result sink.new }
 {
-    let letters_at = put_number(out, at, order.seed as u64);
-    put_letters(out, letters_at, order.letters)
+    put_number(sink, order.seed as u64)?;
+    put_letters(sink, order.letters)
 }
 
-fn put_numbers(out: &mut [u8], at: usize, numbers: &[u32]) -> usize
-    requires { at + length (commaed (map decimal numbers.now)) ≤ length out.old }
-    ensures { Put at (commaed (map decimal numbers.now)) out.old out.new result }
+fn put_numbers<S: Sink>(sink: &mut S, numbers: &[u32]) -> Result<(), Refusal>
+    ensures { Puts S.room S.took sink.old (commaed (map decimal numbers.now)) result sink.new }
 {
-    let mut end = at;
     for n in numbers {
-        end = put_number(out, end, u64::from(*n));
+        put_number(sink, u64::from(*n))?;
     }
-    end
+    Ok(())
 }
 
-fn put_field(out: &mut [u8], at: usize, field: Field<'_>) -> usize
-    requires { at + length (field_text field) ≤ length out.old }
-    ensures { Put at (field_text field.entry) out.old out.new result }
+fn put_field<S: Sink>(sink: &mut S, field: Field<'_>) -> Result<(), Refusal>
+    ensures { Puts S.room S.took sink.old (field_text field.entry) result sink.new }
 {
+    // A closed set of fields, each of another type: a match, and no trait object.
     match field {
-        Field::Text(bytes) => put_text(out, at, bytes),
-        Field::Number(n) => put_number(out, at, n),
-        Field::Looks(order) => put_order(out, at, order),
-        Field::Numbers(numbers) => put_numbers(out, at, numbers),
+        Field::Text(text) => put_text(sink, text),
+        Field::Number(n) => put_number(sink, n),
+        Field::Looks(order) => put_order(sink, order),
+        Field::Numbers(numbers) => put_numbers(sink, numbers),
     }
 }
 
-pub(crate) fn put_fields(out: &mut [u8], at: usize, fields: &[Field<'_>]) -> usize
-    requires { at + length (flat_map field_text fields.now) ≤ length out.old }
-    ensures { Put at (flat_map field_text fields.now) out.old out.new result }
+fn put_fields<S: Sink>(sink: &mut S, fields: &[Field<'_>]) -> Result<(), Refusal>
+    ensures { Puts S.room S.took sink.old (flat_map field_text fields.now) result sink.new }
 {
-    let mut end = at;
     for field in fields {
-        end = put_field(out, end, *field);
+        put_field(sink, *field)?;
     }
-    end
+    Ok(())
+}
+
+// The letter of the line's kind, its fields, and byte 10.
+pub(crate) fn put_line<S: Sink>(sink: &mut S, kind: u8, fields: &[Field<'_>]) -> Result<(), Refusal>
+    ensures { Puts S.room S.took sink.old (kind ∷ (flat_map field_text fields.now ++ 10 ∷ [])) result sink.new }
+{
+    sink.put(&[kind])?;
+    put_fields(sink, fields)?;
+    sink.put(b"\n")
 }

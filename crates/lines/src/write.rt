@@ -6,29 +6,22 @@ ghost use Rattle.lines.specs.Written.{Written};
 ghost use Rattle.std.specs.List.{flat_map};
 ghost use Rattle.walk.specs.Asked.{order_of};
 
+use crate::cursor::Cursor;
 use crate::field::Field;
-use crate::layer::Layer;
-use crate::put::put_fields;
-use crate::room::after_fields;
+use crate::put::put_line;
+use crate::room::Room;
 use entry::Name;
-use refusal::Refusal;
+use refusal::{Layer, Refusal};
 use walk::Order;
-
-// The bytes of a line beside its fields: the letter of its kind, and byte 10.
-const FRAME: usize = 2;
 
 fn write_line(out: &mut [u8], kind: u8, fields: &[Field<'_>]) -> Result<usize, Refusal>
     ensures { Written (kind ∷ (flat_map field_text fields.now ++ 10 ∷ [])) out.old out.new result }
 {
-    match after_fields(out.len(), fields) {
-        Some(left) if left >= FRAME => {
-            out[0] = kind;
-            let end = put_fields(out, 1, fields);
-            out[end] = b'\n';
-            Ok(end + 1)
-        },
-        _ => Err(Refusal::ShortLine),
-    }
+    let mut room = Room { left: out.len() };
+    put_line(&mut room, kind, fields)?;
+    let mut cursor = Cursor { out, at: 0 };
+    put_line(&mut cursor, kind, fields)?;
+    Ok(cursor.at)
 }
 
 // A rule's plan.
@@ -80,7 +73,7 @@ pub fn write_fault(
 {
     let fields = [
         Field::Number(u64::from(refusal.number())),
-        Field::Text(layer.text()),
+        Field::Text(layer.text().as_bytes()),
         Field::Number(line as u64),
         Field::Number(place as u64),
     ];

@@ -1,3 +1,4 @@
 pub mod Paint
+pub mod Numbers
 pub mod Passing
 pub mod Undo

@@ -51,3 +51,17 @@ module _ (strip : List ℕ) (n : ℕ) where
       let e = end-front m (omega arith) in
       let r = reads-front m (omega arith) i b in
       cc
+
+  passes-front : (z k : ℕ) → 2 * suc k ≤ n → passes (take n strip) z k ≡ passes strip z k
+  passes-front z k h =
+      let s = start-front k (omega arith) in
+      let e = end-front k (omega arith) in
+      let b = boxes-front (suc k) h in
+      cc
+
+  pub pass_all-front : (z m : ℕ) → 2 * m ≤ n → pass_all (take n strip) z m ≡ pass_all strip z m
+  pass_all-front z zero h = refl
+  pass_all-front z (suc m) h =
+      let a = pass_all-front z m (omega arith) in
+      let p = passes-front z m h in
+      cc

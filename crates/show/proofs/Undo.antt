@@ -2,11 +2,16 @@
 use Rattle.std.proofs.Common.{◌≡◌, ℕ, zero, suc, ◌+◌, ◌-◌, ◌<◌, ◌≤◌, min, cond, ◌&&◌, ltb, leb, List, ◌++◌, length, get_or, take, drop, replicate, sym, refl, ap, ◌∙◌, ⊎_elim, add-one, arith}
 use lib.Seq.{paste}
 use Rattle.std.proofs.lemmas.List.Edits.{length-paste}
-use Rattle.std.proofs.lemmas.List.{append_assoc, drop-take, length-drop, length-replicate, length-take-le, take_at, take-take}
+use Rattle.std.proofs.lemmas.List.{append_assoc, drop-take, length-drop, length-replicate, length-take-le, take_all, take_at, take_more, take-take}
+use Rattle.std.proofs.lemmas.List.Sums.{sum_by_push}
+use Rattle.std.specs.List.{sum_by}
 use Rattle.std.proofs.lemmas.Bool.{cases_eq}
 use Rattle.std.proofs.lemmas.Bool.Decides.{nat_tests}
+use Rattle.show.proofs.Numbers.{end_in-at, start_in-at}
 use Rattle.show.proofs.Paint.{back, painted_box}
 use Rattle.show.specs.Ends.{start_in, kept_by, end_in, undone}
+use Rattle.show.specs.Numbers.{numbers}
+use Rattle.show.specs.declared.stretch.Stretch.{Stretch}
 use Rattle.show.specs.Stretches.{Shown, boxes, covers, end_of, reads, start_of}
 
 take_below : (d s : List ℕ) (at n : ℕ) → at + n ≤ length d → take at (paste d at s n) ≡ take at d
@@ -17,7 +22,7 @@ cut : (s e n i : ℕ) → i < n → (leb (min s (min e n)) i && ltb i (min e n))
 cut s e n i h = grind (arith, nat_tests)
 
 module _ (strip : List ℕ) where
-  kept-le : (n k : ℕ) → kept_by strip n k ≤ boxes strip k
+  pub kept-le : (n k : ℕ) → kept_by strip n k ≤ boxes strip k
   kept-le n zero = omega arith
   kept-le n (suc k) = let t = kept-le n k in omega arith
 
@@ -40,6 +45,24 @@ module _ (strip : List ℕ) where
       let here : take w (drop u s) ≡ take w (drop u t) = sym (drop-take u w s) ∙ ap (drop u) h ∙ drop-take u w t in
       let front : take u s ≡ take u t = sym (take-take u (u + w) s (omega arith)) ∙ ap (take u) h ∙ take-take u (u + w) t (omega arith) in
       ap (λ z. undone strip n s m (take f xs ++ z ++ drop (f + w) xs)) here ∙ agree n m s t (paste xs f (drop u t) w) front
+
+-- `width n s`         how many bytes a stretch saves of an ink of n boxes
+abbrev pub width : ℕ → Stretch → ℕ
+width n s = min s.end n - min s.start (min s.end n)
+
+kept-take : (ss : List Stretch) (n k : ℕ) → k ≤ length ss → sum_by (width n) (take k ss) ≡ kept_by (numbers ss) n k
+kept-take ss n zero h = refl
+kept-take ss n (suc k) h =
+    let d : Stretch = record { start = 0; end = 0 } in
+    let here : k < length ss = omega arith in
+    ap (λ j. sum_by (width n) (take j ss)) (sym (add-one k))
+    ∙ ap (sum_by (width n)) (take_more ss k d here)
+    ∙ sum_by_push (width n) (take k ss) (get_or ss k d)
+    ∙ omega (arith, kept-take ss n k (omega arith), end_in-at ss n k (get_or ss k d) d here refl, start_in-at ss n k (get_or ss k d) d here refl)
+
+-- the bytes that all stretches save are the sum of what each saves
+pub kept-sum : (ss : List Stretch) (n : ℕ) → sum_by (width n) ss ≡ kept_by (numbers ss) n (length ss)
+kept-sum ss n = ap (sum_by (width n)) (sym (take_all (length ss) ss (omega arith))) ∙ kept-take ss n (length ss) (omega arith)
 
 -- after k stretches on the ink xs
 pub record Painting (strip : List ℕ) (k : ℕ) (xs ys saved : List ℕ) (at : ℕ) : Type 0 where
@@ -75,10 +98,14 @@ module _ (strip xs ys saved ys' saved' : List ℕ) (k f l at v : ℕ) (so : Pain
       }
 
 -- putting the bytes of the last stretch back leaves the rest to those before it
-pub back_on : (strip saved ys ys' zs : List ℕ) (n k f l at : ℕ) → 0 < k → at ≡ kept_by strip n k → f ≡ start_in strip n (k - 1) → l ≡ end_in strip n (k - 1) → ys' ≡ paste ys f (drop (at - (l - f)) saved) (l - f) → undone strip n saved k ys ≡ zs → (at - (l - f) ≡ kept_by strip n (k - 1)) × (undone strip n saved (k - 1) ys' ≡ zs)
-back_on strip saved ys ys' zs n k f l at some counted ef el ey so =
-    let j = k - 1 in
-    let last : k ≡ suc j = omega arith in
+pub back_on : (strip saved ys ys' zs : List ℕ) (n j k f l at : ℕ) → k ≡ j + 1 → at ≡ kept_by strip n k → f ≡ start_in strip n j → l ≡ end_in strip n j → ys' ≡ paste ys f (drop (at - (l - f)) saved) (l - f) → undone strip n saved k ys ≡ zs → (at - (l - f) ≡ kept_by strip n j) × (undone strip n saved j ys' ≡ zs)
+back_on strip saved ys ys' zs n j k f l at next counted ef el ey so =
+    let last : k ≡ suc j = next ∙ add-one j in
     let left : at - (l - f) ≡ kept_by strip n j = omega (arith, ap (kept_by strip n) last) in
     let here : ys' ≡ paste ys (start_in strip n j) (drop (kept_by strip n j) saved) (end_in strip n j - start_in strip n j) = cc in
     (left, ap (undone strip n saved j) here ∙ sym (ap (λ i. undone strip n saved i ys) last) ∙ so)
+
+-- the first of these stretches are still to be undone of those that the ink xs was shown with
+pub record Undoing (all : List Stretch) (left : ℕ) (saved xs ys : List ℕ) (at : ℕ) : Type 0 where
+  pub counted : at ≡ kept_by (numbers all) (length xs) left
+  pub same : undone (numbers all) (length xs) saved left ys ≡ undone (numbers all) (length xs) saved (length all) xs

@@ -8,6 +8,7 @@ use crate::tested::ShowTest;
 // The ink under a show. While it lasts the ink can be read through it, and in no other way.
 pub struct Show<'a> {
     ink: &'a mut [u8],
+    // What was painted over, in place: a show asks for no memory, and has at most 64 boxes.
     saved: [u8; 64],
     passed: ShowTest,
 }
@@ -28,11 +29,13 @@ impl Drop for Show<'_> {
 }
 
 impl ShowTest {
+    ghost use Rattle.show.specs.Held.{count_of, strip_of};
+
     // Shows what passed on any ink: of another ink than the tested one, only boxes inside it are painted.
     pub fn open<'a>(self, ink: &'a mut [u8]) -> Show<'a>
         ensures lent { result.ink.ghost_name ≡ ink.entry.ghost_name }
         ensures size { length result.ink.now ≡ length ink.old }
-        ensures shown { Shown self.strip self.m ink.old result.ink.now }
+        ensures shown { Shown (strip_of self) (count_of self) ink.old result.ink.now }
         ensures ends { ended result ≡ ink.old }
     {
         let saved = self.paint_all(ink);

@@ -8,6 +8,7 @@
 mod checks;
 pub mod glimpses;
 pub mod guard;
+pub(crate) mod stretch;
 mod strokes;
 pub mod tested;
 

@@ -1,11 +1,14 @@
-ghost use Rattle.std.specs.Prelude.{◌≤◌};
+ghost use Rattle.std.specs.Prelude.{◌≤◌, length};
+ghost use Rattle.few.specs.Few.{entries};
+ghost use Rattle.show.specs.Numbers.{numbers};
 ghost use Rattle.show.specs.Stretches.{boxes};
 
-// A strip and how many of its stretches to show, which passed the test; the test alone makes one.
+use crate::stretch::Stretch;
+use few::Few;
+
+// The stretches to show, which passed the test; the test alone makes one.
 #[derive(Clone, Copy)]
 pub struct ShowTest {
-    pub(crate) strip: [usize; 24],
-    pub(crate) m: usize,
-    ghost few: { m ≤ 12 },
-    ghost small: { boxes strip m ≤ 64 },
+    pub(crate) shown: Few<Stretch, 12>,
+    ghost small: { boxes (numbers (entries shown)) (length (entries shown)) ≤ 64 },
 }

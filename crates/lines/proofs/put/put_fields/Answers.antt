@@ -1,14 +1,11 @@
-use Rattle.std.proofs.Common.{refl}
-use Rattle.lines.proofs.Passes.{of_fields, writes_all, writes_more, writes_room}
+use Rattle.std.proofs.Common.{refl, rules}
+use Rattle.lines.specs.Fields.{field_text}
+use Rattle.lines.proofs.Passes.{all_short}
 use Rattle.lines.proofs.put.put_fields.Goals as goal
 
-pub put_field-end-requires : goal.put_field-end-requires
-put_field-end-requires c =
-    writes_room _ _ of_fields _ _ _ _ _ _ _ _ c.loop-field-test.true refl c.requires c.loop-field.invariant
-
-pub loop-field-preserved : goal.loop-field-preserved
-loop-field-preserved c =
-    writes_more _ _ of_fields _ _ _ _ _ _ _ _ _ _ c.loop-field-test.true refl c.requires c.loop-field.invariant c.put_field-end.ensures
-
-pub returns : goal.returns
-returns c = writes_all _ _ of_fields _ _ _ _ _ _ c.loop-field-test.false c.loop-field.invariant
+pub returns-in_err-put_field : goal.returns-in_err-put_field
+returns-in_err-put_field g c =
+    let left = g.met.S.Sink.rest _ _ _ c.loop-field.invariant in
+    let short = all_short field_text _ _ _ _ _ _ c.loop-field-test.true refl left c.in_err-put_field.ensures.1 in
+    let kind = c.in_err-put_field.ensures.0 in
+    search rules

@@ -1,7 +1,6 @@
-use Rattle.std.proofs.Common.{[], ◌∷◌, arith}
-use Rattle.lines.proofs.Laid.{put_byte, put-part, put-put}
+use Rattle.std.proofs.Common.{[], ◌∷◌}
+use Rattle.lines.proofs.Passes.{puts-puts}
 use Rattle.lines.proofs.put.put_text.Goals as goal
 
 pub returns : goal.returns
-returns c =
-    put-put _ _ _ (44 ∷ []) _ _ _ _ (omega arith) (put_byte _ _ _ (omega arith)) (put-part _ _ _ _ _ c.copy_from_slice.ensures.after (omega arith))
+returns g c = puts-puts _ _ g.met.S.Sink.rest g.met.S.Sink.both _ _ _ (44 ∷ []) _ _ c.in_ok-put.ensures c.put-2.ensures

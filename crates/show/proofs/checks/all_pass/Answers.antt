@@ -1,24 +1,25 @@
-use Rattle.std.proofs.Common.{sym, ap, add-one, arith}
+use Rattle.std.proofs.Common.{length, sym, ap, add-one, arith}
+use Rattle.show.specs.Numbers.{numbers}
 use Rattle.show.specs.Stretches.{boxes}
+use Rattle.show.proofs.Numbers.{numbers-end, numbers-start}
 use Rattle.show.proofs.Passing.{fails, passes_on, turned_down}
 use Rattle.show.proofs.checks.all_pass.Goals as goal
+use Rattle.show.proofs.checks.all_pass.Goals.{then-stretch-via-then-stretch, then-stretch-via-else-stretch+then-stretch-ink_len, then-stretch-via-else-stretch+else-stretch-ink_len+then-len-room}
 
-pub returns-then-start-end : goal.returns-then-start-end
-returns-then-start-end c =
-    let strip = c.args.strip.now in
-    let n = c.args.ink_len in
-    let k = c.loop-k.k in
-    sym (fails strip n c.args.m k c.loop-k-test.true (turned_down strip n k (λ p q. omega (arith, c.then-start-end.either))))
+pub returns-then-stretch : goal.returns-then-stretch
+returns-then-stretch c =
+    let ss = c.args.stretches.now in
+    let k = c.loop-stretch.stretch-index in
+    let s = numbers-start ss k (record { start = 0; end = 0 }) c.loop-stretch-test.true in
+    let e = numbers-end ss k (record { start = 0; end = 0 }) c.loop-stretch-test.true in
+    sym (fails (numbers ss) c.args.ink_len (length ss) k c.loop-stretch-test.true (turned_down (numbers ss) c.args.ink_len k (λ p q. elim c.then-stretch.branch [ then-stretch-via-then-stretch w ↦ omega (arith, s, e, w.if-stretch.true) | then-stretch-via-else-stretch+then-stretch-ink_len w ↦ omega (arith, s, e, w.if-stretch-ink_len.true) | then-stretch-via-else-stretch+else-stretch-ink_len+then-len-room w ↦ omega (arith, s, e, w.len.ensures, w.if-len-room.true, c.loop-stretch.invariant.0) ])))
 
-pub returns-then-end-start : goal.returns-then-end-start
-returns-then-end-start c =
-    let strip = c.args.strip.now in
-    let n = c.args.ink_len in
-    let k = c.loop-k.k in
-    sym (fails strip n c.args.m k c.loop-k-test.true (turned_down strip n k (λ p q. omega (arith, c.loop-k.invariant.0))))
-
-pub loop-k-preserved : goal.loop-k-preserved
-loop-k-preserved c =
-    let strip = c.args.strip.now in
-    let k = c.loop-k.k in
-    (omega (arith, c.loop-k.invariant.0, ap (boxes strip) (add-one k)), passes_on strip c.args.ink_len k c.loop-k.invariant.1 c.if-start-end.false c.if-end-ink_len.false (omega (arith, c.loop-k.invariant.0)))
+pub loop-stretch-preserved : goal.loop-stretch-preserved
+loop-stretch-preserved c =
+    let ss = c.args.stretches.now in
+    let k = c.loop-stretch.stretch-index in
+    let s = numbers-start ss k (record { start = 0; end = 0 }) c.loop-stretch-test.true in
+    let e = numbers-end ss k (record { start = 0; end = 0 }) c.loop-stretch-test.true in (
+      omega (arith, c.loop-stretch.invariant.0, ap (boxes (numbers ss)) (add-one k), s, e, c.len.ensures, c.len-room.ensures),
+      passes_on (numbers ss) c.args.ink_len k c.loop-stretch.invariant.1 (omega (arith, s, e)) (omega (arith, e)) (omega (arith, c.loop-stretch.invariant.0, s, e, c.len.ensures)),
+    )

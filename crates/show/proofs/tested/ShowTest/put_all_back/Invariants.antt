@@ -1,8 +1,7 @@
-use Rattle.std.proofs.Common.{◌≡◌, length}
-use Rattle.show.specs.Ends.{kept_by, undone}
+use Rattle.std.proofs.Common.{◌-◌, length}
+use Rattle.few.specs.Few.{entries}
+use Rattle.show.proofs.Undo.{Undoing}
 use Rattle.show.proofs.tested.ShowTest.put_all_back.Given as goal
 
-abbrev pub invariant-loop-k : goal.invariant-loop-k
-invariant-loop-k l =
-    (l.at ≡ kept_by l.self.strip (length l.initial.ink) l.k)
-    × (undone l.self.strip (length l.initial.ink) l.saved l.k l.ink ≡ undone l.self.strip (length l.initial.ink) l.saved l.self.m l.initial.ink)
+abbrev pub invariant-loop-stretch : goal.invariant-loop-stretch
+invariant-loop-stretch l = Undoing (entries l.self.shown) (length (entries l.self.shown) - length l.yielded) l.saved l.initial.ink l.ink l.at

@@ -1,12 +1,19 @@
-use Rattle.std.proofs.Common.{ap, add-one, arith}
-use Rattle.show.specs.Ends.{kept_by}
-use Rattle.show.proofs.Undo.{has_room}
+use Rattle.std.proofs.Common.{◌∙◌, arith, rules, tests}
+use Rattle.std.proofs.lemmas.Iterator.{YieldsList-from_map, YieldsList-from_slice}
+use Rattle.std.proofs.lemmas.Iterator.Consumers.{fits_by_from_yields_list, sum_by_from_yields_List}
+use Rattle.few.specs.Few.{entries}
+use Rattle.show.specs.Held.{count_of, strip_of}
+use Rattle.show.proofs.Undo.{kept-le, kept-sum, width}
 use Rattle.show.proofs.tested.ShowTest.room.Goals as goal
 
-pub overflow_add-room : goal.overflow_add-room
-overflow_add-room c =
-    let passed = c.args.self.now in
-    omega (arith, has_room passed.strip c.args.ink_len passed.m c.loop-k.k c.loop-k-test.true, passed.small)
+pub returns : goal.returns
+returns c =
+    let ss = entries c.args.self.now.shown in
+    sum_by_from_yields_List (width c.args.ink_len) ss c.map.result c.sum.result c.sum.ensures.ran (YieldsList-from_map _ (width c.args.ink_len) (YieldsList-from_slice ss (cc)) c.map.ensures.closure (λ x r q k. search (rules, tests)))
+    ∙ kept-sum ss c.args.ink_len
 
-pub loop-k-preserved : goal.loop-k-preserved
-loop-k-preserved c = omega (arith, ap (kept_by c.args.self.now.strip c.args.ink_len) (add-one c.loop-k.k), c.loop-k.invariant)
+pub sum-requires-clause-fits : goal.sum-requires-clause-fits
+sum-requires-clause-fits c =
+    let ss = entries c.args.self.now.shown in
+    let n = c.args.ink_len in
+    fits_by_from_yields_list (width n) ss c.map.result _ (YieldsList-from_map _ (width n) (YieldsList-from_slice ss (cc)) c.map.ensures.closure (λ x r q k. search (rules, tests))) (omega (arith, kept-sum ss n, kept-le (strip_of c.args.self.now) n (count_of c.args.self.now), c.args.self.now.small))

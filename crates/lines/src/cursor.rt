@@ -1,0 +1,38 @@
+// Bytes that are written over, from the front on.
+ghost use Rattle.std.specs.Prelude.{◌≡◌, ◌+◌, ◌-◌, ◌≤◌, length, refl};
+ghost use Rattle.std.proofs.Common.{◌∙◌};
+
+use crate::sink::Sink;
+use refusal::Refusal;
+
+#[derive(Drop)]
+pub(crate) struct Cursor<'a> {
+    pub(crate) out: &'a mut [u8],
+    pub(crate) at: usize,
+    ghost inside: { at ≤ length out.now },
+}
+
+impl Sink for Cursor<'_> {
+    ghost use Rattle.lines.specs.Fields.{Put};
+    ghost use Rattle.lines.specs.Laws.{put_nothing, put-put, put_rest};
+
+    ghost room = { λ s. length s.out.now - s.at };
+
+    ghost took = { λ s text t. (t.out.ghost_name ≡ s.out.ghost_name) × Put s.at text s.out.now t.out.now t.at };
+
+    fn put(&mut self, text: &[u8]) -> Result<(), Refusal> {
+        if text.len() > self.out.len() - self.at {
+            return Err(Refusal::ShortLine);
+        }
+        let end = self.at + text.len();
+        self.out[self.at..end].copy_from_slice(text);
+        self.at = end;
+        Ok(())
+    }
+
+    ghost nothing = { λ s. (refl, put_nothing s.at s.out.now) };
+
+    ghost both = { λ s t u a b p q. (q.0 ∙ p.0, put-put s.at t.at u.at a b s.out.now t.out.now u.out.now s.inside p.1 q.1) };
+
+    ghost rest = { λ s t a p. put_rest s.at t.at a s.out.now t.out.now t.inside p.1 };
+}
