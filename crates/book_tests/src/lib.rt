@@ -5,3 +5,5 @@
 mod books;
 #[cfg(test)]
 mod entries;
+#[cfg(test)]
+mod refused;

@@ -1,5 +1,5 @@
 // Limits hit exactly and passed by one, and what a refused text leaves.
-use crate::verdict::verdict;
+use crate::verdict::judged;
 use book::Chapter;
 use job::read_job;
 use std::alloc::{AllocError, Global};
@@ -72,8 +72,7 @@ fn lengths(rt: HostRuntime) -> Result<(), Fail> {
     ];
     for (about, start, part, times, end, wanted) in cases {
         let job = built(heap, start, part, times, end)?;
-        let found = verdict(heap, job.as_slice())?;
-        assert_eq!(rt; found.as_str(), wanted, "{}", about);
+        judged(&rt, heap, about, job.as_slice(), wanted)?;
     }
     Ok(())
 }
@@ -111,8 +110,7 @@ fn rooms(rt: HostRuntime) -> Result<(), Fail> {
     ];
     for (about, start, part, times, end, wanted) in cases {
         let job = built(heap, start, part, times, end)?;
-        let found = verdict(heap, job.as_slice())?;
-        assert_eq!(rt; found.as_str(), wanted, "{}", about);
+        judged(&rt, heap, about, job.as_slice(), wanted)?;
     }
     Ok(())
 }
@@ -136,8 +134,7 @@ fn entries(rt: HostRuntime) -> Result<(), Fail> {
     ];
     for (about, start, end, wanted) in cases {
         let job = built(heap, start, b"", 0, end)?;
-        let found = verdict(heap, job.as_slice())?;
-        assert_eq!(rt; found.as_str(), wanted, "{}", about);
+        judged(&rt, heap, about, job.as_slice(), wanted)?;
     }
     Ok(())
 }

@@ -35,12 +35,7 @@ const ROOM: usize = 200;
 
 // Whether all bytes are as they were before the call.
 fn untouched(bytes: &[u8]) -> bool {
-    for byte in bytes {
-        if *byte != MARK {
-            return false;
-        }
-    }
-    true
+    bytes.iter().all(|byte| *byte == MARK)
 }
 
 // `about` says of a failure which row and which room it was.
@@ -60,19 +55,11 @@ fn is_written(
     Ok(())
 }
 
-fn is_refused(
-    rt: &impl Abort,
-    about: (&str, &str),
-    call: Call<'_>,
-    out: &mut [u8],
-) -> Result<(), Fail> {
+fn is_refused(rt: &impl Abort, about: (&str, &str), call: Call<'_>, out: &mut [u8]) {
     let (row, room) = about;
-    match call.write(out) {
-        Ok(_) => return Err(Fail::new("too little room was enough")),
-        Err(refusal) => assert_eq!(rt; refusal.number(), 25, "{row}, {room}"),
-    }
+    let refused = call.write(out).err().map(Refusal::number);
+    assert_eq!(rt; refused, Some(25), "{row}, {room}");
     assert!(rt; untouched(out), "{row}, {room}: after a refusal");
-    Ok(())
 }
 
 fn is_line(rt: &impl Abort, row: &str, call: Call<'_>, wanted: &[u8]) -> Result<(), Fail> {
@@ -97,8 +84,9 @@ fn is_line(rt: &impl Abort, row: &str, call: Call<'_>, wanted: &[u8]) -> Result<
         (row, "one byte too few"),
         call,
         &mut [MARK; ROOM][0..len - 1],
-    )?;
-    is_refused(rt, (row, "no byte"), call, &mut [])
+    );
+    is_refused(rt, (row, "no byte"), call, &mut []);
+    Ok(())
 }
 
 pub fn writes(rt: &impl Abort, rows: &[(&str, Call<'_>, &[u8])]) -> Result<(), Fail> {

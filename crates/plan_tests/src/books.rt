@@ -68,10 +68,9 @@ fn le(place: usize) -> Mark {
 }
 
 pub fn marks(heap: Global) -> Result<MarkSource, Fail> {
-    match MarkList::copied(heap, &[le(2), le(6), le(10), le(12)])?.test(12) {
-        Ok(passed) => Ok(passed.open()),
-        Err(_) => Err(Fail::new("the marks were refused")),
-    }
+    let tested = MarkList::copied(heap, &[le(2), le(6), le(10), le(12)])?.test(12);
+    let passed = tested.map_err(|_| Fail::new("the marks were refused"))?;
+    Ok(passed.open())
 }
 
 pub fn page<'a>(
@@ -82,10 +81,7 @@ pub fn page<'a>(
     Ok(Both::new(RowTest::new(row, book)?.open(), marks(heap)?))
 }
 
-// The number of a refusal, 0 where there is none.
-pub fn refusal_of<T: Drop>(answer: Result<T, Refusal>) -> u8 {
-    match answer {
-        Ok(_) => 0,
-        Err(refusal) => refusal.number(),
-    }
+// The number that an answer is refused by, if it is.
+pub fn refusal_of<T: Drop>(answer: Result<T, Refusal>) -> Option<u8> {
+    answer.err().map(Refusal::number)
 }

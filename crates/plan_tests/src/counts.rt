@@ -35,7 +35,7 @@ fn the_ladder(rt: HostRuntime) -> Result<(), Fail> {
     assert_eq!(rt; twelve.at(1, 12), 16, "twelve motifs");
     assert_eq!(rt;
         refusal_of(count(&mut room, &source, &book, 3)),
-        14,
+        Some(14),
         "no such rule"
     );
     Ok(())
@@ -56,7 +56,7 @@ fn as_many_as_there_may_be(rt: HostRuntime) -> Result<(), Fail> {
     assert_eq!(rt; nine.at(1, 9), 1_000_000_000, "the largest");
     assert_eq!(rt;
         refusal_of(count(&mut room, &source, &book, 1)),
-        15,
+        Some(15),
         "the whole rule passes it"
     );
     Ok(())

@@ -36,12 +36,12 @@ fn weighed(rt: HostRuntime) -> Result<(), Fail> {
     );
     assert_eq!(rt; weigh(20_000, &book, 1)?.at(1, 2), 99_998, "the heaviest");
     let cases = [
-        ("a long row before all else", 20_001, 9, 12),
-        ("the longest row, no such rule", 20_000, 3, 14),
-        ("no rule at the largest number", 0, 18446744073709551615, 14),
-        ("a long row before a large number", 20_001, 2, 12),
-        ("a number too large", 20_000, 2, 15),
-        ("small enough in a short row", 0, 2, 0),
+        ("a long row before all else", 20_001, 9, Some(12)),
+        ("the longest row, no such rule", 20_000, 3, Some(14)),
+        ("no rule at the largest number", 0, usize::MAX, Some(14)),
+        ("a long row before a large number", 20_001, 2, Some(12)),
+        ("a number too large", 20_000, 2, Some(15)),
+        ("small enough in a short row", 0, 2, None),
     ];
     for (about, boxes, rule, wanted) in cases {
         assert_eq!(rt; refusal_of(weigh(boxes, &book, rule)), wanted, "{}", about);
@@ -63,14 +63,14 @@ fn by_the_ladder(rt: HostRuntime) -> Result<(), Fail> {
 #[test]
 fn from_any_numbers(rt: HostRuntime) {
     let cases = [
-        ("the largest number", 20_000, 1_000_000_000, 0),
-        ("one more", 20_000, 1_000_000_001, 15),
-        ("a long row", 20_001, 1_000_000_000, 12),
+        ("the largest number", 20_000, 1_000_000_000, None),
+        ("one more", 20_000, 1_000_000_001, Some(15)),
+        ("a long row", 20_001, 1_000_000_000, Some(12)),
         (
             "a long row before a large number",
             20_001,
             1_000_000_001,
-            12,
+            Some(12),
         ),
     ];
     for (about, boxes, number, wanted) in cases {

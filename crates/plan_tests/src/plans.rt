@@ -62,13 +62,19 @@ fn refused(rt: HostRuntime) -> Result<(), Fail> {
     let source = marks(heap)?;
     let none = Forecast::new(12, Runs::zeros())?;
     let cases = [
-        ("an L too many", 0, 2, [R, L, L], 16),
-        ("an R too many", 0, 2, [R, R, R], 16),
-        ("no motif 0", 0, 0, [R, R, R], 16),
-        ("no motif 5", 0, 5, [L, L, L], 16),
-        ("an order of a longer rule", 1, 1, [R, R, R], 16),
-        ("no such rule", 3, 1, [R, R, R], 14),
-        ("no such rule, whatever the order", 3, 9, [L, L, L], 14),
+        ("an L too many", 0, 2, [R, L, L], Some(16)),
+        ("an R too many", 0, 2, [R, R, R], Some(16)),
+        ("no motif 0", 0, 0, [R, R, R], Some(16)),
+        ("no motif 5", 0, 5, [L, L, L], Some(16)),
+        ("an order of a longer rule", 1, 1, [R, R, R], Some(16)),
+        ("no such rule", 3, 1, [R, R, R], Some(14)),
+        (
+            "no such rule, whatever the order",
+            3,
+            9,
+            [L, L, L],
+            Some(14),
+        ),
     ];
     for (about, rule, seed, letters, wanted) in cases {
         let order = Order {
@@ -82,7 +88,7 @@ fn refused(rt: HostRuntime) -> Result<(), Fail> {
             about
         );
     }
-    assert_eq!(rt; refusal_of(plan(&book, 3, &none, &source)), 14);
+    assert_eq!(rt; refusal_of(plan(&book, 3, &none, &source)), Some(14));
     Ok(())
 }
 

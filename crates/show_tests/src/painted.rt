@@ -61,9 +61,7 @@ fn a_long_ink(rt: HostRuntime) -> Result<(), Fail> {
     ] {
         assert_eq!(rt; passed.glimpse(ink.as_mut_slice(), i), wanted);
     }
-    for byte in ink.as_slice() {
-        assert!(rt; *byte == 7);
-    }
+    assert!(rt; ink.iter().all(|byte| *byte == 7));
     Ok(())
 }
 

@@ -3,7 +3,9 @@ use crate::asked::Question::{End, Start};
 use crate::asked::answers;
 use crate::rows::FAR;
 use entry::Mark;
-use mark::{MarkList, MarkSource};
+use mark::MarkFault::{Entry, TooLong};
+use mark::{MarkFault, MarkList, MarkSource};
+use refusal::Refusal;
 use source::{PricedSource, Source};
 use std::alloc::Global;
 use std::test::Fail;
@@ -13,10 +15,9 @@ pub fn at(motif: usize, start: usize, end: usize) -> Mark {
 }
 
 pub fn opened(heap: Global, length: usize, marks: &[Mark]) -> Result<MarkSource, Fail> {
-    match MarkList::copied(heap, marks)?.test(length) {
-        Ok(passed) => Ok(passed.open()),
-        Err(_) => Err(Fail::new("the marks were refused")),
-    }
+    let tested = MarkList::copied(heap, marks)?.test(length);
+    let passed = tested.map_err(|_| Fail::new("the marks were refused"))?;
+    Ok(passed.open())
 }
 
 #[test]
@@ -60,76 +61,76 @@ fn overlapping_marks(rt: HostRuntime) -> Result<(), Fail> {
     Ok(())
 }
 
-// The number of the refusal and the entry that it tells; 0 and 0 where the marks pass.
-fn fault(heap: Global, length: usize, marks: &[Mark]) -> Result<(u8, usize), Fail> {
-    match MarkList::copied(heap, marks)?.test(length) {
-        Ok(_) => Ok((0, 0)),
-        Err(refused) => match refused.fault {
-            mark::MarkFault::TooLong => Ok((refused.fault.refusal().number(), 0)),
-            mark::MarkFault::Entry(entry) => Ok((refused.fault.refusal().number(), entry)),
-        },
-    }
+// The fault with the number of its refusal, none where the marks pass.
+fn fault(heap: Global, length: usize, marks: &[Mark]) -> Result<Option<(u8, MarkFault)>, Fail> {
+    let tested = MarkList::copied(heap, marks)?.test(length);
+    Ok(tested.err().map(|refused| (Refusal::from(refused.fault).number(), refused.fault)))
 }
 
 #[test]
 fn refused_marks(rt: HostRuntime) -> Result<(), Fail> {
     let heap = rt.alloc();
     let good = at(2, 3, 4);
-    let cases: [(&str, usize, [Mark; 3], (u8, usize)); 10] = [
+    let cases: [(&str, usize, [Mark; 3], Option<(u8, MarkFault)>); 10] = [
         (
             "in order",
             20_000,
             [at(0, 9, 9), at(15, 0, 0), at(15, 0, 20_000)],
-            (0, 0),
+            None,
         ),
         (
             "too long a length, before any mark",
             20_001,
             [at(16, 0, 0), good, good],
-            (12, 0),
+            Some((12, TooLong)),
         ),
         (
             "a motif above 15",
             9,
             [good, at(16, 5, 5), at(0, 0, 0)],
-            (13, 1),
+            Some((13, Entry(1))),
         ),
         (
             "a start above its end",
             9,
             [at(2, 5, 4), good, good],
-            (13, 0),
+            Some((13, Entry(0))),
         ),
         (
             "an end above the length",
             9,
             [at(2, 1, 1), at(2, 1, 10), at(2, 0, 0)],
-            (13, 1),
+            Some((13, Entry(1))),
         ),
-        ("equal marks", 9, [at(1, 1, 1), good, good], (13, 2)),
+        (
+            "equal marks",
+            9,
+            [at(1, 1, 1), good, good],
+            Some((13, Entry(2))),
+        ),
         (
             "an end that falls",
             9,
             [at(2, 3, 5), good, at(3, 0, 0)],
-            (13, 1),
+            Some((13, Entry(1))),
         ),
         (
             "a start that falls",
             9,
             [at(2, 4, 4), good, at(3, 0, 0)],
-            (13, 1),
+            Some((13, Entry(1))),
         ),
         (
             "a motif that falls",
             9,
             [at(3, 0, 0), at(3, 0, 1), good],
-            (13, 2),
+            Some((13, Entry(2))),
         ),
         (
             "the first of several",
             9,
             [good, good, at(16, 0, 0)],
-            (13, 1),
+            Some((13, Entry(1))),
         ),
     ];
     for (about, length, [first, second, third], wanted) in cases {
@@ -140,6 +141,6 @@ fn refused_marks(rt: HostRuntime) -> Result<(), Fail> {
             about
         );
     }
-    assert_eq!(rt; fault(heap, 0, &[])?, (0, 0), "no mark on no box");
+    assert_eq!(rt; fault(heap, 0, &[])?, None, "no mark on no box");
     Ok(())
 }

@@ -93,11 +93,9 @@ fn lengths(rt: HostRuntime) -> Result<(), Fail> {
             ("the last place", End(0, 20_000, 0), None),
         ],
     );
-    match RowTest::new(codes.as_slice(), &book) {
-        Ok(_) => Err(Fail::new("20,001 boxes passed")),
-        Err(refusal) => {
-            assert_eq!(rt; refusal.number(), 12);
-            Ok(())
-        },
-    }
+    let refused = RowTest::new(codes.as_slice(), &book)
+        .err()
+        .map(Refusal::number);
+    assert_eq!(rt; refused, Some(12), "20,001 boxes");
+    Ok(())
 }
