@@ -8,6 +8,7 @@ use mark::{MarkFault, MarkList, MarkSource};
 use refusal::Refusal;
 use source::{PricedSource, Source};
 use std::alloc::Global;
+use std::process::Abort;
 use std::test::Fail;
 
 pub fn at(motif: usize, start: usize, end: usize) -> Mark {
@@ -67,11 +68,27 @@ fn fault(heap: Global, length: usize, marks: &[Mark]) -> Result<Option<(u8, Mark
     Ok(tested.err().map(|refused| (Refusal::from(refused.fault).number(), refused.fault)))
 }
 
+// What is said of a table's row, a length, marks, and the fault that is wanted.
+type Case<'a> = (&'a str, usize, [Mark; 3], Option<(u8, MarkFault)>);
+
+// The mark at this entry is at fault.
+fn bad(entry: usize) -> Option<(u8, MarkFault)> {
+    Some((13, Entry(entry)))
+}
+
+fn are_told(rt: &impl Abort, heap: Global, cases: &[Case<'_>]) -> Result<(), Fail> {
+    for (about, length, marks, wanted) in cases {
+        let found = fault(heap, *length, marks.as_slice())?;
+        assert_eq!(rt; found, *wanted, "{}", *about);
+    }
+    Ok(())
+}
+
 #[test]
 fn refused_marks(rt: HostRuntime) -> Result<(), Fail> {
     let heap = rt.alloc();
     let good = at(2, 3, 4);
-    let cases: [(&str, usize, [Mark; 3], Option<(u8, MarkFault)>); 10] = [
+    let cases = [
         (
             "in order",
             20_000,
@@ -88,59 +105,55 @@ fn refused_marks(rt: HostRuntime) -> Result<(), Fail> {
             "a motif above 15",
             9,
             [good, at(16, 5, 5), at(0, 0, 0)],
-            Some((13, Entry(1))),
+            bad(1),
         ),
         (
             "a start above its end",
             9,
             [at(2, 5, 4), good, good],
-            Some((13, Entry(0))),
+            bad(0),
         ),
         (
             "an end above the length",
             9,
             [at(2, 1, 1), at(2, 1, 10), at(2, 0, 0)],
-            Some((13, Entry(1))),
-        ),
-        (
-            "equal marks",
-            9,
-            [at(1, 1, 1), good, good],
-            Some((13, Entry(2))),
-        ),
-        (
-            "an end that falls",
-            9,
-            [at(2, 3, 5), good, at(3, 0, 0)],
-            Some((13, Entry(1))),
-        ),
-        (
-            "a start that falls",
-            9,
-            [at(2, 4, 4), good, at(3, 0, 0)],
-            Some((13, Entry(1))),
-        ),
-        (
-            "a motif that falls",
-            9,
-            [at(3, 0, 0), at(3, 0, 1), good],
-            Some((13, Entry(2))),
+            bad(1),
         ),
         (
             "the first of several",
             9,
             [good, good, at(16, 0, 0)],
-            Some((13, Entry(1))),
+            bad(1),
         ),
     ];
-    for (about, length, [first, second, third], wanted) in cases {
-        assert_eq!(rt;
-            fault(heap, length, &[first, second, third])?,
-            wanted,
-            "{}",
-            about
-        );
-    }
+    are_told(&rt, heap, &cases)?;
     assert_eq!(rt; fault(heap, 0, &[])?, None, "no mark on no box");
     Ok(())
+}
+
+#[test]
+fn marks_out_of_order(rt: HostRuntime) -> Result<(), Fail> {
+    let good = at(2, 3, 4);
+    let cases = [
+        ("equal marks", 9, [at(1, 1, 1), good, good], bad(2)),
+        (
+            "an end that falls",
+            9,
+            [at(2, 3, 5), good, at(3, 0, 0)],
+            bad(1),
+        ),
+        (
+            "a start that falls",
+            9,
+            [at(2, 4, 4), good, at(3, 0, 0)],
+            bad(1),
+        ),
+        (
+            "a motif that falls",
+            9,
+            [at(3, 0, 0), at(3, 0, 1), good],
+            bad(2),
+        ),
+    ];
+    are_told(&rt, rt.alloc(), &cases)
 }
