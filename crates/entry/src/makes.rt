@@ -35,11 +35,11 @@ impl Name {
         ensures refused { refused_by result ≡ name_fault letters.now }
         ensures value { IfOk result (λ n. letters_of n ≡ letters.now) }
     {
+        let kept = Few::of(0, letters).map_err(|_| Refusal::BadName)?;
         if letters.is_empty() || !all_letters(letters) {
             return Err(Refusal::BadName);
         }
-        let letters = Few::of(0, letters).map_err(|_| Refusal::BadName)?;
-        Ok(Name { letters })
+        Ok(Name { letters: kept })
     }
 }
 

@@ -1,8 +1,9 @@
 // What a value of a book holds.
-ghost use Rattle.std.specs.Prelude.{◌≡◌, ◌≤◌};
+ghost use Rattle.std.specs.Prelude.{◌≡◌, ◌≤◌, nat_eq};
 ghost use Rattle.entry.specs.Bodies.{codes_of, fits, items_of};
 ghost use Rattle.entry.specs.Named.{letters_of};
 ghost use Rattle.entry.specs.Rules.{motifs_of, ranges_of, span_of, width};
+ghost use Rattle.std.specs.List.{list_any};
 
 use crate::body::{Body, Class, Item};
 use crate::name::Name;
@@ -15,6 +16,13 @@ impl Name {
     {
         self.letters.as_slice()
     }
+}
+
+// A class has few codes: of these one after another is quicker than `contains`, which compares many at a time.
+fn has_code(codes: &[u16], code: u16) -> bool
+    ensures { result ≡ list_any (nat_eq code) codes.now }
+{
+    codes.iter().any(|c| code == *c)
 }
 
 impl Class {
@@ -33,7 +41,7 @@ impl Item {
         match self {
             Item::Code(c) => code == *c,
             Item::Any => true,
-            Item::Class(class) => class.codes().contains(&code),
+            Item::Class(class) => has_code(class.codes(), code),
         }
     }
 }

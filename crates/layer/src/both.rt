@@ -24,7 +24,10 @@ impl<A: Source, B: Source> Both<A, B> {
 fn nearer_of(x: Option<usize>, y: Option<usize>) -> Option<usize>
     ensures { result ≡ nearer x y }
 {
-    x.into_iter().chain(y).min()
+    match (x, y) {
+        (Some(a), Some(b)) => Some(a.min(b)),
+        (a, b) => a.or(b),
+    }
 }
 
 impl<A: Source, B: Source> Source for Both<A, B> {

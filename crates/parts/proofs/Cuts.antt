@@ -1,7 +1,7 @@
 -- The parts of a text, from left to right.
-use Rattle.std.proofs.Common.{◌≡◌, ℕ, suc, ◌+◌, ◌-◌, ◌<◌, ◌≤◌, false, cond, eqb, List, [], ◌∷◌, ◌++◌, length, get_or, drop, sym, refl, ap, ◌∙◌, inl, inr, arith}
+use Rattle.std.proofs.Common.{◌≡◌, ℕ, suc, ◌+◌, ◌-◌, ◌<◌, ◌≤◌, false, cond, eqb, List, [], ◌∷◌, ◌++◌, length, get_or, drop, take, sym, refl, subst, ap, ◌∙◌, inl, inr, arith}
 use Rattle.std.proofs.lemmas.List.Edits.{get_or-between, length-between}
-use Rattle.std.proofs.lemmas.List.{drop_more, take-append-drop, drop-drop, length-drop, take_all}
+use Rattle.std.proofs.lemmas.List.{drop_more, get_or-drop, take-append-drop, drop-drop, length-drop, take_all}
 use Rattle.std.proofs.lemmas.List.Splits.{slice_split-cons_no, slice_split-cons_yes}
 use Rattle.std.proofs.lemmas.Bool.{cases_lt, eq-eqb, le-leb, lt-leb, ne_eqb}
 use Rattle.std.specs.List.{between, onto_first}
@@ -64,3 +64,18 @@ left_all b w = ap (λ t. cond t (parts b w) []) (le-leb 0 (length w) (omega arit
 
 pub left-none : (b : ℕ) (w : List ℕ) (i : ℕ) → length w < i → left b w i ≡ []
 left-none b w i h = ap (λ t. cond t (parts b (drop i w)) []) (lt-leb i (length w) h)
+
+behind : (b : ℕ) (w : List ℕ) (i e : ℕ) → i ≤ length w → IsPart b (drop i w) 0 e → IsPart b w i (i + e)
+behind b w i e h p =
+    record {
+      from = omega arith;
+      within = omega (arith, length-drop i w, p.within);
+      lacks = λ k l m eq. p.lacks (k - i) (omega arith) (omega arith) (get_or-drop i w (k - i) 0 ∙ ap (λ x. get_or w x 0) (omega arith) ∙ eq);
+      ends = λ l. sym (get_or-drop i w e 0) ∙ p.ends (omega (arith, length-drop i w));
+    }
+
+-- the first part of what is left from a place on is the part at that place
+pub part_behind : (b : ℕ) (w : List ℕ) (i e : ℕ) → i ≤ length w → IsPart b (take (length w - i) (drop i w)) 0 e → IsPart b w i (i + e)
+part_behind b w i e h p =
+    let all : take (length w - i) (drop i w) ≡ drop i w = take_all (length w - i) (drop i w) (omega (arith, length-drop i w)) in
+    behind b w i e h (subst (λ x. IsPart b x 0 e) all p)

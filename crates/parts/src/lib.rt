@@ -14,12 +14,23 @@ pub fn count(text: &[u8], byte: u8) -> usize
     text.iter().filter(|x| **x == byte).count()
 }
 
-// The end of the part that begins at `from`: the next such byte, or the end of the text.
+// How long the first part is.
+fn first_len(text: &[u8], byte: u8) -> usize
+    ensures { IsPart byte text.now 0 result }
+{
+    text.iter().take_while(|x| **x != byte).count()
+}
+
+// The end of the part that begins at `from`: the next such byte, or the end of the text. What stands before `from` is cut
+// off, since an iterator that skips goes over it.
 pub fn part_end(text: &[u8], from: usize, byte: u8) -> usize
     ensures inside { from ≤ length text.now → IsPart byte text.now from result }
     ensures behind { length text.now < from → result ≡ from }
 {
-    from + text.iter().skip(from).take_while(|x| **x != byte).count()
+    if from > text.len() {
+        return from;
+    }
+    from + first_len(&text[from..], byte)
 }
 
 // A part of a text, and the place at which it begins.

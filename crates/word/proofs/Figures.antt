@@ -4,6 +4,7 @@ use lib.Signed.{le_z}
 use Rattle.std.specs.Bool.{then_some}
 use Rattle.std.proofs.lemmas.Int.{ints}
 use Rattle.std.proofs.lemmas.List.{nil_from_length}
+use Rattle.std.proofs.lemmas.Fmt.{decimal-digits_value, length-decimal-le}
 use Rattle.std.proofs.lemmas.Bool.{and_from, and_left, and_parts, and_right, cases_Bool, cases_lt, eqb-true, le-leb, leb-true, ne_eqb, or_cases}
 use Rattle.std.proofs.lemmas.Str.{IsUtf8-from_ascii}
 use Rattle.std.proofs.lemmas.Str.Ascii.{IsAscii-cons, IsAscii-nil}
@@ -178,6 +179,43 @@ pub value_text : (w : List ℕ) → (IsUtf8 w → ⊥) → None ≡ near (writte
 value_text [] h = refl
 value_text (b ∷ bs) h =
     elim (word_ascii b bs) [ inl n ↦ sym (ap near n) | inr a ↦ absurd (h (IsUtf8-from_ascii (b ∷ bs) a)) ]
+
+-- more than ten digits without a leading zero are more than an `i32` holds
+
+long_value : (ds : List ℕ) → 10 < length ds → leads ds ≡ true → all_ascii_digits ds ≡ true → 10 ^ 10 ≤ digits_value 10 ds
+long_value [] k l a = absurd (omega arith)
+long_value (b ∷ bs) k l a =
+    elim (cases_lt (digits_value 10 (b ∷ bs)) (10 ^ 10)) [
+      | inl s ↦ (let same = decimal-digits_value own (b ∷ bs) a (omega arith) (λ e. absurd (omega (arith, leb-true 49 b l))) (omega arith) in
+          let few = length-decimal-le 10 (digits_value 10 (b ∷ bs)) (omega arith) s (omega arith) in
+          absurd (omega (arith, subst (λ x. length x ≤ 10) same few)))
+      | inr g ↦ g
+    ]
+
+long_plain : (ds : List ℕ) (sign : ℕ → ℤ) → 10 < length ds → ((n : ℕ) → 10 ^ 10 ≤ n → near (Some (sign n)) ≡ None) → near (option_map sign (plain ds)) ≡ None
+long_plain ds sign k out =
+    elim (cases_Bool (leads ds && all_ascii_digits ds)) [
+      | inl e ↦ (let p = and_parts (leads ds) (all_ascii_digits ds) e in
+          ap (λ t. near (option_map sign (then_some t (digits_value 10 ds)))) e ∙ out (digits_value 10 ds) (long_value ds k p.0 p.1))
+      | inr e ↦ ap (λ t. near (option_map sign (then_some t (digits_value 10 ds)))) e
+    ]
+
+-- so a word of more than eleven bytes need not be read
+pub long_word : (w : List ℕ) → 11 < length w → None ≡ near (written w)
+long_word [] k = refl
+long_word (b ∷ bs) k =
+    let zero = then_some (eqb (length bs) 0) (pos 0) in
+    let minus = option_map (λ n. neg_ℤ (pos n)) (plain bs) in
+    let plus = option_map pos (plain (b ∷ bs)) in
+    let below : near minus ≡ None = long_plain bs (λ n. neg_ℤ (pos n)) (omega arith) (λ n g. kept-below (negsuc 2147483647) (pos 2147483647) (neg_ℤ (pos n)) (omega (arith, ints, g))) in
+    let above : near plus ≡ None = long_plain (b ∷ bs) pos (omega arith) (λ n g. kept_above (negsuc 2147483647) (pos 2147483647) (pos n) (omega (arith, ints, g))) in
+    elim (cases_Bool (eqb b 48)) [
+      | inl e ↦ sym (ap (λ t. near (cond t zero (cond (eqb b 45) minus plus))) e ∙ ap (λ t. near (then_some t (pos 0))) (ne_eqb (length bs) 0 (λ z. omega arith)))
+      | inr e ↦ (elim (cases_Bool (eqb b 45)) [
+        | inl m ↦ sym (ap (λ t. near (cond t zero (cond (eqb b 45) minus plus))) e ∙ ap (λ t. near (cond t minus plus)) m ∙ below)
+        | inr m ↦ sym (ap (λ t. near (cond t zero (cond (eqb b 45) minus plus))) e ∙ ap (λ t. near (cond t minus plus)) m ∙ above)
+      ])
+    ]
 
 -- what is known of bytes that are read as a text
 pub no_text : {T E : Type 0} (r : Result T E) (P : T → Type 0) (Q : Type 0) (V : E → Type 0) → MatchResult r P (λ e. Q × V e) → None ≡ result_ok r → Q

@@ -11,10 +11,17 @@ fn begins_well(word: &[u8]) -> bool
     matches!(word, [b'0'] | [b'1'..=b'9', ..] | [b'-', b'1'..=b'9', ..])
 }
 
+// No number that fits has more bytes, so that a longer word need not be read to its end.
+const LONGEST: usize = 11;
+
 // The number that a word writes, if it fits; no limits reach further.
+#[tactic(auto, using(crate::proofs::Figures::long_word))]
 fn value(word: &[u8]) -> Option<i32>
     ensures { result ≡ kept (negsuc 2147483647) (pos 2147483647) (written word.now) }
 {
+    if word.len() > LONGEST {
+        return None;
+    }
     if !begins_well(word) {
         return None;
     }
