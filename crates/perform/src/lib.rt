@@ -5,4 +5,4 @@ mod performs;
 pub mod values;
 
 pub use self::performs::perform;
-pub use self::values::{Answer, Call, Turn};
+pub use self::values::{Answer, Call, Reply, Turn};

@@ -6,14 +6,13 @@ ghost use Rattle.sheet_model.specs.Sheet.{Reply as AnyReply, after, answer, answ
 ghost use Rattle.source.specs.Meaning.{priced};
 ghost use Rattle.theorem.specs.Whole.{Whole};
 
-use crate::values::{Answer, Call, Turn};
-use refusal::Refusal;
+use crate::values::{Answer, Call, Reply, Turn};
 use sheet::Sheet;
 use source::{PricedSource, Source};
 
 impl Call<'_> {
     // Makes the call.
-    fn make<S: PricedSource>(&mut self, sheet: &mut Sheet<S>) -> Result<Answer, Refusal>
+    fn make<S: PricedSource>(&mut self, sheet: &mut Sheet<S>) -> Reply
         ensures told { let offer = priced (S.Source.means sheet.old.source) (S.PricedSource.price sheet.old.source) in answer offer (sheet_of offer sheet.old.work) (call_of self.old) ≡ (sheet_of offer sheet.new.work, reply_to self.new result) }
         ensures source { sheet.new.source ≡ sheet.old.source }
         ensures handed { handed self.new ≡ handed self.old }

@@ -28,9 +28,12 @@ pub enum Answer {
     Looked(Looked),
 }
 
+// What a call answers, or what refuses it.
+pub type Reply = Result<Answer, Refusal>;
+
 // A call and its reply, `None` until the call is made. An accepted take writes into the strip of its call.
 #[derive(Drop)]
 pub struct Turn<'a> {
     pub call: Call<'a>,
-    pub reply: Option<Result<Answer, Refusal>>,
+    pub reply: Option<Reply>,
 }
