@@ -16,13 +16,13 @@ fn is_run(i: usize, j: usize) -> bool
     1 <= i && i <= j && j <= 12
 }
 
-// The row with the number in its place. Of a cell that is written in place, the proof does not know the row's length.
-fn replaced(mut row: [u64; 12], place: usize, number: u64) -> [u64; 12]
+// Puts the number in its place of the row. Of a cell that is written from the table on, the proof does not know the
+// row's length.
+fn set(row: &mut [u64; 12], place: usize, number: u64)
     requires { place < 12 }
-    ensures { (k : ℕ) → slice_index result k ≡ cond (k == place) number (slice_index row k) }
+    ensures { (k : ℕ) → slice_index row.new k ≡ cond (k == place) number (slice_index row.old k) }
 {
     row[place] = number;
-    row
 }
 
 impl Runs {
@@ -49,7 +49,7 @@ impl Runs {
         ensures { Put i j number self.old self.new }
     {
         if is_run(i, j) {
-            self.rows[i - 1] = replaced(self.rows[i - 1], j - 1, number);
+            set(&mut self.rows[i - 1], j - 1, number);
         }
     }
 }
