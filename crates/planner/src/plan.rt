@@ -77,7 +77,7 @@ impl Pricing<'_> {
 #[derive(Clone, Copy)]
 struct Costs<'a> {
     pricing: Pricing<'a>,
-    least: Runs,
+    least: &'a Runs,
 }
 
 // A seed is a bare number, as in `Order` and `Planned`: a type of its own would give the number back at each call.
@@ -86,16 +86,16 @@ impl Costs<'_> {
     fn seed_price(&self, seed: usize) -> u64
         requires some { 1 ≤ seed }
         requires within { seed ≤ (terms self.now.pricing).motifs }
-        requires filled { Filled (terms self.now.pricing) (number_at self.now.least) }
-        ensures { result ≡ start (terms self.now.pricing) (number_at self.now.least) seed }
+        requires filled { Filled (terms self.now.pricing) (number_at self.now.least.now) }
+        ensures { result ≡ start (terms self.now.pricing) (number_at self.now.least.now) seed }
     {
         self.pricing.seed_price(seed) + self.least.at(seed, seed)
     }
 
     // The first seed of those with the least price, and that price.
     fn best_seed(&self) -> (usize, u64)
-        requires { Filled (terms self.now.pricing) (number_at self.now.least) }
-        ensures { Chosen (terms self.now.pricing) (number_at self.now.least) ((terms self.now.pricing).motifs + 1) result.0 result.1 }
+        requires { Filled (terms self.now.pricing) (number_at self.now.least.now) }
+        ensures { Chosen (terms self.now.pricing) (number_at self.now.least.now) ((terms self.now.pricing).motifs + 1) result.0 result.1 }
     {
         // By hand: of `min_by_key` it stayed open that each seed may be asked, and that the first of equals is kept.
         let mut best = (1, self.seed_price(1));
@@ -112,12 +112,12 @@ impl Costs<'_> {
     fn best_letters(&self, seed: usize) -> Few<Letter, 11>
         requires some { 1 ≤ seed }
         requires within { seed ≤ (terms self.now.pricing).motifs }
-        requires filled { Filled (terms self.now.pricing) (number_at self.now.least) }
+        requires filled { Filled (terms self.now.pricing) (number_at self.now.least.now) }
         ensures { Best (terms self.now.pricing) seed seed (entries result) }
     {
         let mut letters = Few::none(Letter::R);
         let mut run = Run::alone(seed);
-        while let Some(next) = self.pricing.extend(&self.least, run) {
+        while let Some(next) = self.pricing.extend(self.least, run) {
             run = run.after(next.letter);
             letters.push(next.letter).unwrap();
         }
@@ -125,7 +125,7 @@ impl Costs<'_> {
     }
 
     fn plan(&self) -> Planned
-        requires { Filled (terms self.now.pricing) (number_at self.now.least) }
+        requires { Filled (terms self.now.pricing) (number_at self.now.least.now) }
         ensures { IsPlanned (terms self.now.pricing) (planned_order result).seed (planned_order result).letters result.price }
     {
         let (seed, price) = self.best_seed();
@@ -143,6 +143,6 @@ pub fn cheapest(tariff: &Tariff, forecast: &Forecast) -> Planned
     ensures { IsPlanned (terms_of tariff.now forecast.now) (planned_order result).seed (planned_order result).letters result.price }
 {
     let pricing = Pricing { tariff, forecast };
-    let least = pricing.least_prices();
+    let least = &pricing.least_prices();
     Costs { pricing, least }.plan()
 }
