@@ -1,8 +1,9 @@
 -- Stretches and the numbers of a strip.
 use Rattle.std.proofs.Common.{◌≡◌, ℕ, zero, suc, ◌+◌, ◌-◌, ◌*◌, ◌/◌, ◌<◌, ◌≤◌, min, List, [], ◌∷◌, ◌++◌, length, get_or, take, drop, sym, refl, ap, ◌∙◌, arith}
 use mathlib.Core.List.{reverse}
-use Rattle.std.proofs.lemmas.List.{append_assoc, get_or-drop, get_or-reverse, get_or-take, length-reverse, length-take-le, take_more}
+use Rattle.std.proofs.lemmas.List.{append_assoc, get_or-drop, get_or-reverse, get_or-take, length-reverse, length-take, length-take-le, take_more}
 use Rattle.std.proofs.lemmas.List.Concat.{flat_map-append}
+use Rattle.std.proofs.Math.Seq.{take-nil}
 use Rattle.std.specs.Simd.{first_chunks}
 use Rattle.show.specs.Ends.{end_in, start_in}
 use Rattle.show.specs.Numbers.{numbers}
@@ -22,6 +23,13 @@ numbers-end (s ∷ ss) zero d h = refl
 numbers-end (s ∷ ss) (suc k) d h =
     let e : 2 * suc k + 1 ≡ suc (suc (2 * k + 1)) = omega arith in
     ap (λ j. get_or (numbers (s ∷ ss)) j 0) e ∙ numbers-end ss k d (omega arith)
+
+pub numbers-take : (m : ℕ) (ss : List Stretch) → numbers (take m ss) ≡ take (2 * m) (numbers ss)
+numbers-take zero ss = refl
+numbers-take (suc m) [] = sym (take-nil (2 * suc m))
+numbers-take (suc m) (s ∷ ss) =
+    let e : suc (suc (2 * m)) ≡ 2 * suc m = omega arith in
+    ap (λ t. s.start ∷ s.end ∷ t) (numbers-take m ss) ∙ ap (λ n. take n (numbers (s ∷ ss))) e
 
 -- a pair of a strip has two numbers of it
 pub pair-at : (n : ℕ) (xs : List ℕ) (k j : ℕ) (d : List ℕ) → k < n → j < 2 → get_or (get_or (first_chunks 2 n xs) k d) j 0 ≡ get_or xs (2 * k + j) 0
@@ -55,24 +63,27 @@ module _ (ss : List Stretch) (n k : ℕ) (s d : Stretch) (h : k < length ss) (e 
   pub start_in-at : start_in (numbers ss) n k ≡ min s.start (min s.end n)
   start_in-at = ap (λ x. min x (end_in (numbers ss) n k)) start-at ∙ ap (min s.start) end_in-at
 
--- the same of what the code cuts to an ink of n boxes, out of a slice of the stretches
+-- the same of what the code cuts to an ink of n boxes, out of a slice of the first m stretches
 pub record Cut (ss : List Stretch) (n k : ℕ) (r : Stretch) : Type 0 where
   pub start : r.start ≡ start_in (numbers ss) n k
   pub end : r.end ≡ end_in (numbers ss) n k
   pub ordered : r.start ≤ r.end
   pub within : r.end ≤ n
 
-pub cut_of : (ss : List Stretch) (n k : ℕ) (s d r : Stretch) → k < length ss → s ≡ get_or ss k d → r.start ≡ min s.start (min s.end n) → r.end ≡ min s.end n → Cut ss n k r
-cut_of ss n k s d r h e es ee = record {
-  start = es ∙ sym (start_in-at ss n k s d h e);
-  end = ee ∙ sym (end_in-at ss n k s d h e);
-  ordered = omega (arith, es, ee);
-  within = omega (arith, ee);
-}
+pub cut_of : (ss : List Stretch) (m n k : ℕ) (s d r : Stretch) → k < length (take m ss) → s ≡ get_or (take m ss) k d → r.start ≡ min s.start (min s.end n) → r.end ≡ min s.end n → Cut ss n k r
+cut_of ss m n k s d r h e es ee =
+    let inside : k < length ss = omega (arith, length-take m ss) in
+    let here : s ≡ get_or ss k d = e ∙ get_or-take m ss k d (omega (arith, length-take m ss)) in
+    record {
+      start = es ∙ sym (start_in-at ss n k s d inside here);
+      end = ee ∙ sym (end_in-at ss n k s d inside here);
+      ordered = omega (arith, es, ee);
+      within = omega (arith, ee);
+    }
 
-pub cut-at : (ss xs : List Stretch) (n k : ℕ) (d r : Stretch) → xs ≡ ss → k < length xs → r.start ≡ min (get_or xs k d).start (min (get_or xs k d).end n) → r.end ≡ min (get_or xs k d).end n → Cut ss n k r
-cut-at ss xs n k d r same h es ee =
-    cut_of ss n k (get_or xs k d) d r (omega (arith, ap length same)) (ap (λ ys. get_or ys k d) same) es ee
+pub cut-at : (ss xs : List Stretch) (m n k : ℕ) (d r : Stretch) → xs ≡ take m ss → k < length xs → r.start ≡ min (get_or xs k d).start (min (get_or xs k d).end n) → r.end ≡ min (get_or xs k d).end n → Cut ss n k r
+cut-at ss xs m n k d r same h es ee =
+    cut_of ss m n k (get_or xs k d) d r (omega (arith, ap length same)) (ap (λ ys. get_or ys k d) same) es ee
 
 -- the stretch that comes k-th from the end
 module _ (ss : List Stretch) (k : ℕ) (s : Stretch) (turn : (k < length (reverse ss)) × (s ≡ get_or (reverse ss) k s)) where

@@ -2,7 +2,7 @@
 use Rattle.std.proofs.Common.{◌≡◌, ℕ, zero, suc, ◌+◌, ◌-◌, ◌<◌, ◌≤◌, min, cond, ◌&&◌, ltb, leb, List, ◌++◌, length, get_or, take, drop, replicate, sym, refl, ap, ◌∙◌, ⊎_elim, add-one, arith}
 use lib.Seq.{paste}
 use Rattle.std.proofs.lemmas.List.Edits.{length-paste}
-use Rattle.std.proofs.lemmas.List.{append_assoc, drop-take, length-drop, length-replicate, length-take-le, take_all, take_at, take_more, take-take}
+use Rattle.std.proofs.lemmas.List.{append_assoc, drop-take, length-drop, length-replicate, length-take-le, take_at, take_more, take-take}
 use Rattle.std.proofs.lemmas.List.Sums.{sum_by_push}
 use Rattle.std.specs.List.{sum_by}
 use Rattle.std.proofs.lemmas.Bool.{cases_eq}
@@ -50,7 +50,8 @@ module _ (strip : List ℕ) where
 abbrev pub width : ℕ → Stretch → ℕ
 width n s = min s.end n - min s.start (min s.end n)
 
-kept-take : (ss : List Stretch) (n k : ℕ) → k ≤ length ss → sum_by (width n) (take k ss) ≡ kept_by (numbers ss) n k
+-- the bytes that the first stretches save are the sum of what each saves
+pub kept-take : (ss : List Stretch) (n k : ℕ) → k ≤ length ss → sum_by (width n) (take k ss) ≡ kept_by (numbers ss) n k
 kept-take ss n zero h = refl
 kept-take ss n (suc k) h =
     let d : Stretch = record { start = 0; end = 0 } in
@@ -59,10 +60,6 @@ kept-take ss n (suc k) h =
     ∙ ap (sum_by (width n)) (take_more ss k d here)
     ∙ sum_by_push (width n) (take k ss) (get_or ss k d)
     ∙ omega (arith, kept-take ss n k (omega arith), end_in-at ss n k (get_or ss k d) d here refl, start_in-at ss n k (get_or ss k d) d here refl)
-
--- the bytes that all stretches save are the sum of what each saves
-pub kept-sum : (ss : List Stretch) (n : ℕ) → sum_by (width n) ss ≡ kept_by (numbers ss) n (length ss)
-kept-sum ss n = ap (sum_by (width n)) (sym (take_all (length ss) ss (omega arith))) ∙ kept-take ss n (length ss) (omega arith)
 
 -- after k stretches on the ink xs
 pub record Painting (strip : List ℕ) (k : ℕ) (xs ys saved : List ℕ) (at : ℕ) : Type 0 where
@@ -105,7 +102,7 @@ back_on strip saved ys ys' zs n j k f l at next counted ef el ey so =
     let here : ys' ≡ paste ys (start_in strip n j) (drop (kept_by strip n j) saved) (end_in strip n j - start_in strip n j) = cc in
     (left, ap (undone strip n saved j) here ∙ sym (ap (λ i. undone strip n saved i ys) last) ∙ so)
 
--- the first of these stretches are still to be undone of those that the ink xs was shown with
-pub record Undoing (all : List Stretch) (left : ℕ) (saved xs ys : List ℕ) (at : ℕ) : Type 0 where
-  pub counted : at ≡ kept_by (numbers all) (length xs) left
-  pub same : undone (numbers all) (length xs) saved left ys ≡ undone (numbers all) (length xs) saved (length all) xs
+-- of the m stretches that the ink xs was shown with, the first are still to be undone
+pub record Undoing (strip : List ℕ) (m left : ℕ) (saved xs ys : List ℕ) (at : ℕ) : Type 0 where
+  pub counted : at ≡ kept_by strip (length xs) left
+  pub same : undone strip (length xs) saved left ys ≡ undone strip (length xs) saved m xs

@@ -1,6 +1,5 @@
 // The test of a show: whether it can be opened.
 ghost use Rattle.std.specs.Prelude.{◌≡◌, ℕ, ◌*◌, ◌≤◌, length, take, IfOk};
-ghost use Rattle.few.specs.Few.{entries};
 ghost use Rattle.refusal.specs.Checks.{refused_by};
 ghost use Rattle.show.specs.Faults.{pass_all, show_fault};
 ghost use Rattle.show.specs.Numbers.{numbers};
@@ -8,25 +7,22 @@ ghost use Rattle.show.specs.Stretches.{reads};
 
 use crate::stretch::Stretch;
 use crate::tested::ShowTest;
-use few::Few;
 use refusal::Refusal;
 
-// The first m stretches of a strip.
-fn first_stretches(strip: &[usize], m: usize) -> Few<Stretch, 12>
-    requires few { m ≤ 12 }
-    requires part { 2 * m ≤ length strip.now }
-    ensures count { length (entries result) ≡ m }
-    ensures value { numbers (entries result) ≡ take (2 * m) strip.now }
+// The stretches of a strip's first 24 numbers.
+fn first_stretches(strip: &[usize]) -> [Stretch; 12]
+    requires { 24 ≤ length strip.now }
+    ensures len { length result ≡ 12 }
+    ensures value { numbers result ≡ take 24 strip.now }
 {
-    let mut shown = Few::none(Stretch { start: 0, end: 0 });
-    for [start, end] in &strip.as_chunks::<2>().0[..m] {
-        let stretch = Stretch {
+    let mut stretches = [Stretch { start: 0, end: 0 }; 12];
+    for (k, [start, end]) in strip.as_chunks::<2>().0[..12].iter().enumerate() {
+        stretches[k] = Stretch {
             start: *start,
             end: *end,
         };
-        shown.push(stretch).unwrap();
     }
-    shown
+    stretches
 }
 
 // Whether the stretches lie in the ink and have at most 64 boxes.
@@ -49,7 +45,7 @@ impl ShowTest {
     // Tests the first m stretches of any strip on any ink, and holds them where they pass.
     pub fn new(strip: &[usize], m: usize, ink: &[u8]) -> Result<ShowTest, Refusal>
         ensures refused { refused_by result ≡ show_fault strip.now m (length ink.now) }
-        ensures value { IfOk result (λ t. (count_of t ≡ m) × (strip_of t ≡ take (2 * m) strip.now)) }
+        ensures value { IfOk result (λ t. (count_of t ≡ m) × (strip_of t ≡ take 24 strip.now)) }
         ensures meaning { IfOk result (λ t. ((i byte : ℕ) → reads (strip_of t) (count_of t) i byte ≡ reads strip.now m i byte)) }
     {
         if strip.len() < 24 {
@@ -58,10 +54,13 @@ impl ShowTest {
         if m < 1 || m > 12 {
             return Err(Refusal::BadShow);
         }
-        let shown = first_stretches(strip, m);
-        if !all_pass(shown.as_slice(), ink.len()) {
+        let stretches = first_stretches(strip);
+        if !all_pass(&stretches[..m], ink.len()) {
             return Err(Refusal::BadShow);
         }
-        Ok(ShowTest { shown })
+        Ok(ShowTest {
+            strip: stretches,
+            m,
+        })
     }
 }

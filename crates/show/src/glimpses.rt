@@ -30,5 +30,8 @@ pub fn in_turn(
     ensures first { result.0 ≡ read_at (strip_of first) (count_of first) ink.old i }
     ensures second { result.1 ≡ read_at (strip_of second) (count_of second) ink.old i }
 {
+    if i >= ink.len() {
+        return (None, None);
+    }
     (first.glimpse(ink, i), second.glimpse(ink, i))
 }

@@ -35,8 +35,7 @@ impl ShowTest {
     fn room(&self, ink_len: usize) -> usize
         ensures { result ≡ kept_by (strip_of self.now) ink_len (count_of self.now) }
     {
-        self.shown
-            .as_slice()
+        self.shown()
             .iter()
             .map(|stretch| stretch.within(ink_len).len())
             .sum()
@@ -50,7 +49,7 @@ impl ShowTest {
     {
         let mut saved = [0; 64];
         let mut at = 0;
-        for (k, stretch) in self.shown.as_slice().iter().enumerate() {
+        for (k, stretch) in self.shown().iter().enumerate() {
             let boxes = stretch.within(ink.len());
             paint(ink, &mut saved, at, boxes, (k + 1) as u8);
             at += boxes.len();
@@ -63,7 +62,7 @@ impl ShowTest {
         ensures { ink.new ≡ undone (strip_of self.now) (length ink.old) saved.now (count_of self.now) ink.old }
     {
         let mut at = self.room(ink.len());
-        for stretch in self.shown.as_slice().iter().rev() {
+        for stretch in self.shown().iter().rev() {
             let boxes = stretch.within(ink.len());
             at -= boxes.len();
             put_back(ink, saved, at, boxes);

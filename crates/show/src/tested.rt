@@ -1,14 +1,24 @@
-ghost use Rattle.std.specs.Prelude.{◌≤◌, length};
-ghost use Rattle.few.specs.Few.{entries};
+ghost use Rattle.std.specs.Prelude.{◌≡◌, ◌≤◌, length, take};
 ghost use Rattle.show.specs.Numbers.{numbers};
 ghost use Rattle.show.specs.Stretches.{boxes};
 
 use crate::stretch::Stretch;
-use few::Few;
 
-// The stretches to show, which passed the test; the test alone makes one.
+// A strip and how many of its stretches to show, which passed the test; the test alone makes one.
 #[derive(Clone, Copy)]
 pub struct ShowTest {
-    pub(crate) shown: Few<Stretch, 12>,
-    ghost small: { boxes (numbers (entries shown)) (length (entries shown)) ≤ 64 },
+    pub(crate) strip: [Stretch; 12],
+    pub(crate) m: usize,
+    ghost few: { m ≤ 12 },
+    ghost small: { boxes (numbers strip) m ≤ 64 },
+}
+
+impl ShowTest {
+    // The stretches that are shown.
+    pub(crate) fn shown(&self) -> &[Stretch]
+        ensures value { result.now ≡ take self.now.m self.now.strip }
+        ensures count { length result.now ≡ self.now.m }
+    {
+        &self.strip[..self.m]
+    }
 }

@@ -1,12 +1,17 @@
-use Rattle.std.proofs.Common.{◌+◌, length, refl, ap, ◌∙◌}
-use Rattle.std.proofs.lemmas.List.{length_push}
+use Rattle.std.proofs.Common.{◌≡◌, ◌*◌, take, sym, refl, ap, ◌∙◌, arith}
+use Rattle.std.proofs.lemmas.List.{length-set, length-take, take_all, take_more_set}
 use Rattle.show.specs.Numbers.{numbers}
 use Rattle.show.proofs.Numbers.{front_more}
 use Rattle.show.proofs.checks.first_stretches.Goals as goal
 
-pub loop-start-preserved : goal.loop-start-preserved
-loop-start-preserved c =
-    let pushed = rw c.unwrap.ensures at c.push.ensures.value in (
-      ap length pushed ∙ length_push _ _ ∙ ap (λ n. n + 1) c.loop-start.invariant.0,
-      ap numbers pushed ∙ front_more c.args.strip.now c.as_chunks.result.0.now c.args.m c.loop-start.start-index _ _ c.as_chunks.ensures.front c.as_chunks.ensures.front_len c.requires.part c.loop-start-test.true c.loop-start.invariant.1 refl refl,
-    )
+pub loop-k-preserved : goal.loop-k-preserved
+loop-k-preserved c = (
+  length-set c.loop-k.stretches c.loop-k.k _ ∙ c.loop-k.invariant.0,
+  ap numbers (take_more_set c.loop-k.stretches c.loop-k.k _ (omega (arith, length-take 12 c.as_chunks.result.0.now, c.loop-k.invariant.0)))
+      ∙ front_more c.args.strip.now c.as_chunks.result.0.now 12 c.loop-k.k (take c.loop-k.k c.loop-k.stretches) _ c.as_chunks.ensures.front c.as_chunks.ensures.front_len (omega arith) c.loop-k-test.true c.loop-k.invariant.1 refl refl,
+)
+
+pub returns-clause-value : goal.returns-clause-value
+returns-clause-value c =
+    let k : c.loop-k.k ≡ 12 = omega (arith, length-take 12 c.as_chunks.result.0.now, c.as_chunks.ensures.front_len) in
+    ap numbers (sym (take_all c.loop-k.k c.loop-k.stretches (omega (arith, c.loop-k.invariant.0)))) ∙ c.loop-k.invariant.1 ∙ ap (λ n. take (2 * n) c.args.strip.now) k

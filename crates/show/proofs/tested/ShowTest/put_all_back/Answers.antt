@@ -1,8 +1,7 @@
-use Rattle.std.proofs.Common.{◌≡◌, ℕ, suc, ◌-◌, ◌≤◌, [], ◌∷◌, ◌++◌, length, ap, sym, ◌∙◌, arith}
+use Rattle.std.proofs.Common.{◌≡◌, ℕ, suc, ◌-◌, ◌≤◌, [], ◌∷◌, ◌++◌, length, get_or, take, ap, sym, ◌∙◌, arith}
 use Rattle.std.proofs.lemmas.Iterator.Adapters.{YieldsList-from_rev_slice}
 use Rattle.std.proofs.lemmas.Iterator.Consumers.{YieldsList-turn}
 use Rattle.std.proofs.lemmas.List.{length_push}
-use Rattle.few.specs.Few.{entries}
 use Rattle.show.specs.Ends.{kept_by, undone}
 use Rattle.show.specs.Held.{count_of, strip_of}
 use Rattle.show.proofs.Numbers.{Cut, cut_of, from_end, within_turns}
@@ -12,18 +11,20 @@ use Rattle.show.proofs.tested.ShowTest.put_all_back.Goals.{After-within-boxes}
 
 -- how many stretches are left behind this turn
 rest : After-within-boxes → ℕ
-rest c = length (entries c.args.self.now.shown) - 1 - length c.loop-stretch.yielded
+rest c = c.args.self.now.m - 1 - length c.loop-stretch.yielded
 
 -- the boxes of this turn are those of the last stretch that is left
-cut : (c : After-within-boxes) → (length (entries c.args.self.now.shown) - length c.loop-stretch.yielded ≡ suc (rest c)) × Cut (entries c.args.self.now.shown) (length c.args.ink.now) (rest c) c.within-boxes.result
+cut : (c : After-within-boxes) → (c.args.self.now.m - length c.loop-stretch.yielded ≡ suc (rest c)) × Cut c.args.self.now.strip (length c.args.ink.now) (rest c) c.within-boxes.result
 unfolding rest
 cut c =
-    let ss = entries c.args.self.now.shown in
+    let m = c.args.self.now.m in
+    let ss = take m c.args.self.now.strip in
+    let long : length ss ≡ m = ap length (sym c.shown.ensures.value) ∙ c.shown.ensures.count in
     let k = length c.loop-stretch.yielded in
     let turn = YieldsList-turn (YieldsList-from_rev_slice {s = c.into_iter-stretch-iterator.result} ss (cc)) c.loop-stretch.yielded _ c.loop-stretch.yielded_by _ _ c.in-Some.stretch c.in-Some.is c.next.ensures.steps in
     let here = within_turns ss k c.in-Some.stretch.now turn in (
-      omega (arith, here),
-      cut_of _ _ _ c.in-Some.stretch.now c.in-Some.stretch.now _ (omega (arith, here)) (from_end ss k c.in-Some.stretch.now turn) (rw c.loop-stretch.auto.ink at c.within-boxes.ensures.start) (rw c.loop-stretch.auto.ink at c.within-boxes.ensures.end),
+      omega (arith, here, long),
+      cut_of c.args.self.now.strip m _ _ c.in-Some.stretch.now c.in-Some.stretch.now _ (omega (arith, here, long)) (from_end ss k c.in-Some.stretch.now turn ∙ ap (λ n. get_or ss (n - 1 - k) c.in-Some.stretch.now) long) (rw c.loop-stretch.auto.ink at c.within-boxes.ensures.start) (rw c.loop-stretch.auto.ink at c.within-boxes.ensures.end),
     )
 
 -- their bytes are the last of those that are left, and those are among the saved ones
@@ -50,7 +51,7 @@ loop-stretch-preserved c =
     let i = c.loop-stretch.invariant in
     let at = cut w in
     let back = back_on (strip_of c.args.self.now) c.args.saved.now c.loop-stretch.ink c.put_back.new.ink _ (length c.args.ink.now) (rest w) _ _ _ c.loop-stretch.at (omega (arith, at.0)) i.counted at.1.start at.1.end (rw c.len-at.ensures at c.put_back.ensures) i.same in
-    let next : length (entries c.args.self.now.shown) - length (c.loop-stretch.yielded ++ c.in-Some.stretch ∷ []) ≡ rest w = omega (arith, at.0, length_push c.loop-stretch.yielded c.in-Some.stretch) in
+    let next : c.args.self.now.m - length (c.loop-stretch.yielded ++ c.in-Some.stretch ∷ []) ≡ rest w = omega (arith, at.0, length_push c.loop-stretch.yielded c.in-Some.stretch) in
     record {
       counted = rw c.len-at.ensures (back.0 ∙ sym (ap (kept_by (strip_of c.args.self.now) (length c.args.ink.now)) next));
       same = ap (λ j. undone (strip_of c.args.self.now) (length c.args.ink.now) c.args.saved.now j c.put_back.new.ink) next ∙ back.1;
