@@ -2,7 +2,8 @@ ghost use Rattle.std.specs.Prelude.{◌≡◌};
 ghost use Rattle.line.specs.declared.faults.LineFault.TheVariants.{Word};
 ghost use Rattle.line.specs.Faults.{line_layer, line_place, line_refusal};
 
-use refusal::{Layer, Refusal};
+pub use refusal::Layer;
+use refusal::Refusal;
 use word::WordFault;
 
 // What is wrong with a line, and at which place.

@@ -6,7 +6,6 @@ pub mod faults;
 pub mod kinds;
 mod reads;
 
-pub use self::faults::LineFault;
+pub use self::faults::{Layer, LineFault};
 pub use self::kinds::Line;
 pub use self::reads::read_line;
-pub use refusal::Layer;

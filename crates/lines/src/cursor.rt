@@ -1,15 +1,27 @@
 // Bytes that are written over, from the front on.
-ghost use Rattle.std.specs.Prelude.{◌≡◌, ◌+◌, ◌-◌, ◌≤◌, length, refl};
+ghost use Rattle.std.specs.Prelude.{◌≡◌, ◌+◌, ◌-◌, ◌≤◌, map, length, refl};
+ghost use Rattle.lines.specs.Lines.{letter_byte};
 ghost use Rattle.std.proofs.Common.{◌∙◌};
 
+use crate::put::letter_byte;
 use crate::sink::Sink;
 use refusal::Refusal;
+use walk::Letter;
 
 #[derive(Drop)]
 pub(crate) struct Cursor<'a> {
     pub(crate) out: &'a mut [u8],
     pub(crate) at: usize,
     ghost inside: { at ≤ length out.now },
+}
+
+fn write_letters(out: &mut [u8], letters: &[Letter])
+    requires { length out.old ≡ length letters.now }
+    ensures { out.new ≡ map letter_byte letters.now }
+{
+    for (k, letter) in letters.iter().enumerate() {
+        out[k] = letter_byte(*letter);
+    }
 }
 
 impl Sink for Cursor<'_> {
@@ -26,6 +38,16 @@ impl Sink for Cursor<'_> {
         }
         let end = self.at + text.len();
         self.out[self.at..end].copy_from_slice(text);
+        self.at = end;
+        Ok(())
+    }
+
+    fn put_letters(&mut self, letters: &[Letter]) -> Result<(), Refusal> {
+        if letters.len() > self.out.len() - self.at {
+            return Err(Refusal::ShortLine);
+        }
+        let end = self.at + letters.len();
+        write_letters(&mut self.out[self.at..end], letters);
         self.at = end;
         Ok(())
     }

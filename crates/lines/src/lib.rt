@@ -8,10 +8,11 @@
 
 mod cursor;
 pub(crate) mod field;
+pub mod layer;
 mod put;
 mod room;
 mod sink;
 pub mod write;
 
+pub use self::layer::Layer;
 pub use self::write::{write_end, write_fault, write_find, write_plan};
-pub use refusal::Layer;

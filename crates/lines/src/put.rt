@@ -13,7 +13,7 @@ use refusal::Refusal;
 use walk::{Letter, Order};
 
 // A `From` would have to stand in the crate of `Letter`, which knows no lines.
-fn letter_byte(letter: Letter) -> u8
+pub(crate) fn letter_byte(letter: Letter) -> u8
     ensures { result ≡ letter_byte letter }
 {
     match letter {
@@ -35,20 +35,11 @@ fn put_number<S: Sink>(sink: &mut S, n: u64) -> Result<(), Refusal>
     put_text(sink, Buffer::new().format(n).as_bytes())
 }
 
-fn put_letters<S: Sink>(sink: &mut S, letters: &[Letter]) -> Result<(), Refusal>
-    ensures { Puts S.room S.took sink.old (map letter_byte letters.now) result sink.new }
-{
-    for letter in letters {
-        sink.put(&[letter_byte(*letter)])?;
-    }
-    Ok(())
-}
-
 fn put_order<S: Sink>(sink: &mut S, order: Order<'_>) -> Result<(), Refusal>
     ensures { Puts S.room S.took sink.old (44 ∷ order_text (order_of order.entry)) result sink.new }
 {
     put_number(sink, order.seed as u64)?;
-    put_letters(sink, order.letters)
+    sink.put_letters(order.letters)
 }
 
 fn put_numbers<S: Sink>(sink: &mut S, numbers: &[u32]) -> Result<(), Refusal>

@@ -5,6 +5,7 @@ ghost use Rattle.std.proofs.lemmas.Grind.{common_steps};
 
 use crate::sink::Sink;
 use refusal::Refusal;
+use walk::Letter;
 
 #[derive(Drop)]
 pub(crate) struct Room {
@@ -17,13 +18,16 @@ impl Sink for Room {
     ghost took = { λ s text t. t.left + length text ≡ s.left };
 
     fn put(&mut self, text: &[u8]) -> Result<(), Refusal> {
-        match self.left.checked_sub(text.len()) {
-            Some(left) => {
-                self.left = left;
-                Ok(())
-            }
-            None => Err(Refusal::ShortLine),
-        }
+        self.left = self.left.checked_sub(text.len()).ok_or(Refusal::ShortLine)?;
+        Ok(())
+    }
+
+    fn put_letters(&mut self, letters: &[Letter]) -> Result<(), Refusal> {
+        self.left = self
+            .left
+            .checked_sub(letters.len())
+            .ok_or(Refusal::ShortLine)?;
+        Ok(())
     }
 
     ghost nothing = { Prim.search rules };

@@ -1,0 +1,2 @@
+// Where a refusal comes from, as the line of a fault has it.
+pub use refusal::Layer;
