@@ -2,6 +2,7 @@
 #![tactic(auto)]
 
 pub mod faults;
+pub mod kept;
 pub mod steps;
 mod takes;
 mod values;
