@@ -1,4 +1,4 @@
-use Rattle.std.proofs.Common.{◌≡◌, get_or, Some, refl, ap, ◌∙◌, subst, rules}
+use Rattle.std.proofs.Common.{◌≡◌, get_or, ap, ◌∙◌, subst, rules}
 use Rattle.source.specs.Meaning.{priced}
 use Rattle.sheet_model.specs.Sheet.{answer}
 use Rattle.sheet.specs.States.{sheet_of}
@@ -17,11 +17,10 @@ loop-turn-preserved g c =
     let i = c.loop-turn.turn-index in
     let t : Turn = get_or news i c.turn-item.result in
     let is : t ≡ get_or news i t = ap (λ (z : Turn). get_or news i z) c.turn-item.is in
-    let y : Turn = record { call = c.make.new.self; reply = Some c.make.result } in
     let r = reply_to c.make.new.self c.make.result in
     let told = subst (λ s. let Q = priced (g.S.Source.means s) (g.S.PricedSource.price s) in answer Q (sheet_of Q w) (call_of t.call) ≡ (sheet_of Q v, r)) c.loop-turn.invariant.0 c.make.ensures.told in (
       c.make.ensures.source ∙ c.loop-turn.invariant.0,
-      performed_more P (sheet_of P x.work) (sheet_of P w) (sheet_of P v) c.args.turns.now news i t y r c.loop-turn.invariant.1 (search rules) is told refl c.make.ensures.handed,
+      performed_more P (sheet_of P x.work) (sheet_of P w) (sheet_of P v) c.args.turns.now news i t _ r c.loop-turn.invariant.1 (search rules) is told (search rules) c.make.ensures.handed,
     )
 
 pub returns-clause-whole : goal.returns-clause-whole
