@@ -16,8 +16,8 @@ fn is_run(i: usize, j: usize) -> bool
     1 <= i && i <= j && j <= 12
 }
 
-// Puts the number in its place of the row. Of a cell that is written from the table on, the proof does not know the
-// row's length.
+// Puts the number in its place of the row. Of a cell that is written through the whole table, the proof does not know
+// the row's length.
 fn set(row: &mut [u64; 12], place: usize, number: u64)
     requires { place < 12 }
     ensures { (k : ℕ) → slice_index row.new k ≡ cond (k == place) number (slice_index row.old k) }

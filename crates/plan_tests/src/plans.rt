@@ -1,9 +1,10 @@
 // Prices and plans.
 use crate::books::{ROW, ladder, marks, page, refusal_of};
 use counter::{CountRoom, count};
+use few::Few;
 use forecast::{Forecast, Runs};
 use plan::{plan, price};
-use planner::Planned;
+use planner::{Charge, Planned, Tariff, Width, price_by};
 use std::test::Fail;
 use walk::Letter::{L, R};
 use walk::{Letter, Order};
@@ -165,5 +166,44 @@ fn twelve_motifs(rt: HostRuntime) -> Result<(), Fail> {
     let forecast = Forecast::new(100, runs)?;
     let planned = plan(&book, 2, &forecast, &source)?;
     assert!(rt; is_planned(&planned, 2, &[R, R, R, R, L, R, R, R, R, R, R], 194));
+    Ok(())
+}
+
+// Thirteen looks at 2 for the seed, and then the second motif four times over the range.
+#[test]
+fn by_any_widths(rt: HostRuntime) -> Result<(), Fail> {
+    let first = Charge {
+        look: 2,
+        opening: 5,
+    };
+    let second = Charge {
+        look: 3,
+        opening: 7,
+    };
+    let charges = Few::of(first, &[first, second]).unwrap();
+    let width = Width { places: 10 };
+    let cases = [
+        ("no width", Few::none(width), 54),
+        ("one", Few::of(width, &[width]).unwrap(), 174),
+        (
+            "ten more, which are not read",
+            Few::of(width, &[width; 11]).unwrap(),
+            174,
+        ),
+    ];
+    let forecast = forecast_of(&[(1, 1, 4)])?;
+    for (about, widths, wanted) in cases {
+        let order = Order {
+            seed: 1,
+            letters: &[R],
+        };
+        let tariff = Tariff::new(charges, widths).ok_or(Fail::new("no motif is charged"))?;
+        assert_eq!(rt;
+            price_by(&tariff, &forecast, order),
+            Some(wanted),
+            "{}",
+            about
+        );
+    }
     Ok(())
 }

@@ -1,5 +1,5 @@
 // What the prices of a rule's orders are made from, beside the forecast.
-ghost use Rattle.std.specs.Prelude.{◌≡◌, ◌+◌, ◌≤◌, length};
+ghost use Rattle.std.specs.Prelude.{◌≡◌, ◌+◌, ◌≤◌, not, length, is_some, IfSome, ◌==◌};
 ghost use Rattle.few.specs.Few.{entries};
 
 use few::Few;
@@ -22,17 +22,29 @@ pub struct Width {
     ghost few: { places ≤ 4001 },
 }
 
-// The charges of the motifs, at least one, and the widths of the ranges between them.
+// The charges of the motifs, at least one, and the widths of the ranges between them. What stands behind the last range
+// is not read, and a range with no width of its own has no places.
 #[derive(Clone, Copy)]
 pub struct Tariff {
     pub charges: Few<Charge, 12>,
     pub widths: Few<Width, 11>,
     ghost some: { 1 ≤ length (entries charges) },
-    ghost joined: { length (entries widths) + 1 ≡ length (entries charges) },
 }
 
 impl Tariff {
     ghost use Rattle.planner.specs.Terms.{look_of, motifs_in, opening_of, width_of};
+
+    // A tariff of any widths, however many; `None` where no motif is charged.
+    pub fn new(charges: Few<Charge, 12>, widths: Few<Width, 11>) -> Option<Tariff>
+        ensures some { is_some result ≡ not (length (entries charges) == 0) }
+        ensures charges { IfSome result (λ t. entries t.charges ≡ entries charges) }
+        ensures widths { IfSome result (λ t. entries t.widths ≡ entries widths) }
+    {
+        if charges.is_empty() {
+            return None;
+        }
+        Some(Tariff { charges, widths })
+    }
 
     pub(crate) fn motifs(&self) -> usize
         ensures value { result ≡ motifs_in self.now }
@@ -59,6 +71,7 @@ impl Tariff {
         ensures value { result ≡ width_of self.now range }
         ensures bound { result ≤ 4001 }
     {
-        self.widths.as_slice()[range - 1].places
+        let width = self.widths.as_slice().get(range - 1);
+        width.map_or(0, |width| width.places)
     }
 }

@@ -10,14 +10,14 @@ pub struct ShowTest {
     pub(crate) strip: [Stretch; 12],
     pub(crate) m: usize,
     ghost few: { m ≤ 12 },
+    ghost all: { length strip ≡ 12 },
     ghost small: { boxes (numbers strip) m ≤ 64 },
 }
 
 impl ShowTest {
     // The stretches that are shown.
     pub(crate) fn shown(&self) -> &[Stretch]
-        ensures value { result.now ≡ take self.now.m self.now.strip }
-        ensures count { length result.now ≡ self.now.m }
+        ensures { result.now ≡ take self.now.m self.now.strip }
     {
         &self.strip[..self.m]
     }

@@ -1,7 +1,7 @@
 use Rattle.std.proofs.Common.{◌≡◌, ℕ, suc, ◌-◌, ◌≤◌, [], ◌∷◌, ◌++◌, length, get_or, take, ap, sym, ◌∙◌, arith}
 use Rattle.std.proofs.lemmas.Iterator.Adapters.{YieldsList-from_rev_slice}
 use Rattle.std.proofs.lemmas.Iterator.Consumers.{YieldsList-turn}
-use Rattle.std.proofs.lemmas.List.{length_push}
+use Rattle.std.proofs.lemmas.List.{length-take-le, length_push}
 use Rattle.show.specs.Ends.{kept_by, undone}
 use Rattle.show.specs.Held.{count_of, strip_of}
 use Rattle.show.proofs.Numbers.{Cut, cut_of, from_end, within_turns}
@@ -19,7 +19,7 @@ unfolding rest
 cut c =
     let m = c.args.self.now.m in
     let ss = take m c.args.self.now.strip in
-    let long : length ss ≡ m = ap length (sym c.shown.ensures.value) ∙ c.shown.ensures.count in
+    let long : length ss ≡ m = length-take-le m c.args.self.now.strip (omega (arith, c.args.self.now.few, c.args.self.now.all)) in
     let k = length c.loop-stretch.yielded in
     let turn = YieldsList-turn (YieldsList-from_rev_slice {s = c.into_iter-stretch-iterator.result} ss (cc)) c.loop-stretch.yielded _ c.loop-stretch.yielded_by _ _ c.in-Some.stretch c.in-Some.is c.next.ensures.steps in
     let here = within_turns ss k c.in-Some.stretch.now turn in (
