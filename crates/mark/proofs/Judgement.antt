@@ -1,7 +1,8 @@
 -- What the test of marks tells. Assumes nothing.
-use Rattle.std.proofs.Common.{◌≡◌, ℕ, zero, suc, ◌+◌, ◌<◌, ◌≤◌, Bool, true, false, not, ltb, List, [], ◌∷◌, map, length, get_or, drop, Some, None, Option, sym, subst, ⊎_elim, add-one, arith}
+use Rattle.std.proofs.Common.{◌≡◌, ℕ, zero, suc, ◌+◌, ◌<◌, ◌≤◌, Bool, true, false, not, ltb, List, [], ◌∷◌, map, length, get_or, drop, is_some, Some, None, Option, sym, subst, ⊎_elim, add-one, arith}
+use Rattle.std.specs.List.Sorted.{IsSortedByKey}
 use Rattle.std.proofs.lemmas.List.{drop_more, get_or-map}
-use Rattle.std.proofs.lemmas.Bool.{both_ways, cases_Bool, cond_both, ltb-false, ltb-true}
+use Rattle.std.proofs.lemmas.Bool.{both_ways, cases_Bool, cond_both, ltb-false, ltb-true, true≢false}
 use Rattle.std.proofs.lemmas.Bool.Decides.{nat_tests}
 use Rattle.refusal.specs.Checks.{refuse}
 use Rattle.entry.specs.declared.mark.Mark.{Mark}
@@ -9,6 +10,7 @@ use Rattle.mark.specs.declared.fault.MarkFault.{MarkFault}
 use Rattle.mark.specs.declared.fault.MarkFault.TheVariants.{TooLong, Entry}
 use Rattle.mark.specs.Faults.{fault_from, fits, mark_fault}
 use Rattle.mark.specs.Judged.{FailsAt, Judged, Sound}
+use Rattle.mark.specs.Keys.{before, rank_key, start_key}
 use Rattle.mark.specs.Lawful.{fits-lawful}
 use Rattle.mark.specs.Marks.{Before, LawfulMark}
 
@@ -92,3 +94,14 @@ fault-judged n ms =
 
 pub judged : (n : ℕ) (ms : List Mark) (r : Option MarkFault) → r ≡ mark_fault n ms → Judged n ms r
 judged n ms r e = subst (Judged n ms) (sym e) (fault-judged n ms)
+
+none-sound : (n : ℕ) (ms : List Mark) (r : Option MarkFault) → is_some r ≡ false → Judged n ms r → Sound n ms (length ms)
+none-sound n ms None e j = j.all
+none-sound n ms (Some f) e j = absurd (true≢false e)
+
+after_not_before : (p q : Mark) → Before p q → before (start_key q) (start_key p) ≡ false
+after_not_before p q b = grind (arith, nat_tests)
+
+-- marks that passed are sorted by start
+pub passed_sorted : (n : ℕ) (ms : List Mark) → is_some (mark_fault n ms) ≡ false → IsSortedByKey start_key rank_key ms
+passed_sorted n ms none i d _ h = after_not_before (get_or ms i d) (get_or ms (i + 1) d) ((none-sound n ms (mark_fault n ms) none (fault-judged n ms)).ascending i d h)

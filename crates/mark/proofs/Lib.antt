@@ -1,2 +1,3 @@
+pub mod Copies
 pub mod Judgement
-pub mod Keyed
+pub mod Search

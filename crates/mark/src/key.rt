@@ -1,10 +1,10 @@
-// A mark as a question reads it, and the search among keys.
+// A mark as a question reads it, and the search in the order of such keys.
 ghost use Rattle.std.specs.Prelude.{◌≡◌};
-ghost use Rattle.source.specs.Meaning.{Least};
-ghost use Rattle.mark.specs.Keys.{end_key, has_key, start_key};
+ghost use Rattle.std.specs.Fn.{ComputesKey};
+ghost use Rattle.std.specs.List.Sorted.{IsSortedByKey};
+ghost use Rattle.mark.specs.Keys.{First, end_key, rank_key, start_key};
 
 use entry::Mark;
-use std::collections::BTreeSet;
 
 // The end question knows a start and wants ends; the start question knows an end and wants starts. So `known` is the one
 // and `wanted` the other. Keys come in the order of motif, known, wanted.
@@ -38,10 +38,13 @@ impl Key {
     }
 }
 
-// The smallest wanted, from that of `asked` on, that the keys have at the motif and the known of `asked`.
-pub(crate) fn least_wanted(keys: &BTreeSet<Key>, asked: Key) -> Option<usize>
-    ensures { Least (λ w. has_key keys.now asked.motif asked.known w) asked.wanted result }
+// The first item, in the order of the keys, that does not come before what is asked.
+pub(crate) fn first_from<T: Copy, F: FnMut(&T) -> Key>(items: &[T], asked: Key, key: F) -> Option<T>
+    requires { F.IsAlwaysCallable key }
+    ensures { (k : T → Key) → ComputesKey F.FnMut k key → IsSortedByKey k rank_key items.now → First k items.now asked result }
 {
-    let key = keys.range(asked..).next()?;
-    (key.motif == asked.motif && key.known == asked.known).then_some(key.wanted)
+    match items.binary_search_by_key(&asked, key) {
+        Ok(place) => items.get(place).copied(),
+        Err(place) => items.get(place).copied(),
+    }
 }

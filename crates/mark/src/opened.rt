@@ -5,7 +5,7 @@ ghost use Rattle.mark.specs.Listed.{listed};
 ghost use Rattle.mark.specs.Marks.{mark_meaning, mark_price};
 ghost use Rattle.mark.specs.Opened.{opened_meaning};
 
-use crate::key::{Key, least_wanted};
+use crate::key::Key;
 use crate::tested::MarkTest;
 use source::{PricedSource, Source};
 
@@ -31,27 +31,20 @@ impl Source for MarkSource {
         self.tested.length
     }
 
-    // It and the next ask one search: they differ in the keys alone, and in which place is known.
     fn next_end(&self, motif: usize, start: usize, least: usize) -> Option<usize> {
-        least_wanted(
-            &self.tested.list.starts,
-            Key {
-                motif,
-                known: start,
-                wanted: least,
-            },
-        )
+        self.tested.least_end(Key {
+            motif,
+            known: start,
+            wanted: least,
+        })
     }
 
     fn next_start(&self, motif: usize, end: usize, least: usize) -> Option<usize> {
-        least_wanted(
-            &self.tested.list.ends,
-            Key {
-                motif,
-                known: end,
-                wanted: least,
-            },
-        )
+        self.tested.least_start(Key {
+            motif,
+            known: end,
+            wanted: least,
+        })
     }
 }
 
