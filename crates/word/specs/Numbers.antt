@@ -1,6 +1,5 @@
 -- Number words: what number one writes, and the limits that it has to keep.
-use Rattle.std.specs.Prelude.{ℕ, Bool, false, cond, ◌&&◌, ◌||◌, List, [], ◌∷◌, length, ℤ, pos, negsuc, neg_ℤ, is_some, None, Option, ◌==◌, int_le, nat_le, slice_index, unsigned_abs}
-use Rattle.std.specs.Int.{is_in_range}
+use Rattle.std.specs.Prelude.{ℕ, Bool, false, cond, ◌&&◌, List, [], ◌∷◌, length, ℤ, pos, negsuc, neg_ℤ, is_some, None, Option, ◌==◌, int_le, nat_le, unsigned_abs}
 use Rattle.std.specs.Bool.{then_some}
 use Rattle.std.specs.Option.{option_and_then, option_map, option_map_or}
 use Rattle.std.specs.Str.{all_ascii_digits}
@@ -12,11 +11,6 @@ use Rattle.word.specs.declared.limits.Limits.TheVariants.{Code, Shift, Place}
 abbrev pub leads : List ℕ → Bool
 leads [] = false
 leads (b ∷ bs) = nat_le 49 b
-
--- `begins_well w`  w is 0, or begins with a digit that is no zero behind at most one minus
-abbrev pub begins_well : List ℕ → Bool
-begins_well [] = false
-begins_well (b ∷ bs) = (b == 48 && length bs == 0) || (is_in_range 49 57 b || (b == 45 && is_in_range 49 57 (slice_index bs 0)))
 
 -- `plain ds`       the number of one or more digits without a leading zero
 abbrev pub plain : List ℕ → Option ℕ

@@ -1,31 +1,42 @@
 // The numbers that words write.
 ghost use Rattle.std.specs.Prelude.{◌≡◌, pos, negsuc};
-ghost use Rattle.word.specs.Numbers.{begins_well, code_of, kept, number_of, place_of, written};
+ghost use Rattle.std.specs.Option.{option_map};
+ghost use Rattle.word.specs.Numbers.{code_of, kept, number_of, place_of, plain, written};
 
 use crate::limits::Limits;
 
-// Whether a word begins as a number does: a zero alone, or a digit that is no zero behind at most one minus.
-fn begins_well(word: &[u8]) -> bool
-    ensures { result ≡ begins_well word.now }
+// No limits reach further from 0, so that a longer word need not be read to its end.
+const FURTHEST: u32 = 1_000_000;
+
+// The number of digits without a leading zero, if it is at most a million.
+fn digits(ds: &[u8]) -> Option<i32>
+    ensures { result ≡ kept (pos 0) (pos 1000000) (option_map pos (plain ds.now)) }
 {
-    matches!(word, [b'0'] | [b'1'..=b'9', ..] | [b'-', b'1'..=b'9', ..])
+    if ds.is_empty() || ds[0] < b'1' {
+        return None;
+    }
+    let mut n: u32 = 0;
+    for b in ds {
+        if !b.is_ascii_digit() {
+            return None;
+        }
+        n = n * 10 + u32::from(*b - b'0');
+        if n > FURTHEST {
+            return None;
+        }
+    }
+    Some(n as i32)
 }
 
-// No number that fits has more bytes, so that a longer word need not be read to its end.
-const LONGEST: usize = 11;
-
-// The number that a word writes, if it fits; no limits reach further.
-#[tactic(auto, using(crate::proofs::Figures::long_word))]
+// The number that a word writes, if it is at most a million away from 0.
 fn value(word: &[u8]) -> Option<i32>
-    ensures { result ≡ kept (negsuc 2147483647) (pos 2147483647) (written word.now) }
+    ensures { result ≡ kept (negsuc 999999) (pos 1000000) (written word.now) }
 {
-    if word.len() > LONGEST {
-        return None;
+    match word {
+        [b'0'] => Some(0),
+        [b'-', rest @ ..] => digits(rest).map(|n| -n),
+        _ => digits(word),
     }
-    if !begins_well(word) {
-        return None;
-    }
-    str::from_utf8(word).ok()?.parse().ok()
 }
 
 // The number of a word that is well formed and keeps its limits.

@@ -1,10 +1,15 @@
-use Rattle.std.proofs.Common.{◌≡◌, sym, ◌∙◌, subst, w32}
-use Rattle.std.specs.Str.Parse.{ParsesSigned}
-use Rattle.word.proofs.Figures.{is_text, no_text, value_text, value_told}
+use Rattle.std.proofs.Common.{◌≡◌, ◌<◌, ◌∷◌, length, get_or, sym, ap, ◌∙◌, rules}
+use Rattle.std.proofs.lemmas.Slice.{first_rest}
+use Rattle.std.specs.List.{between}
+use Rattle.word.specs.Numbers.{plain, written}
+use Rattle.word.proofs.Figures.{minus-near, near, negated}
 use Rattle.word.proofs.numbers.value.Goals as goal
 
-pub returns-in_err-ok : goal.returns-in_err-ok
-returns-in_err-ok c = c.from_residual.ensures ∙ value_text c.args.word.now (no_text c.from_utf8.result _ _ _ c.from_utf8.ensures.cases c.in_err-ok.ensures.value)
-
-pub returns : goal.returns
-returns c = c.ok-2.ensures.value ∙ value_told c.args.word.now c.parse.result (sym c.if-not-begins_well.ensures) (subst (λ w. ParsesSigned w32 10 w c.parse.result) (is_text c.from_utf8.result _ (λ s. s.now ≡ c.args.word.now) _ _ c.from_utf8.ensures.cases c.in_ok-ok.ensures.value) c.parse.ensures.value.0)
+pub returns-in-45 : goal.returns-in-45
+returns-in-45 c =
+    let w = c.args.word.now in
+    let long : 0 < length w = search rules in
+    let first : get_or w 0 0 ≡ 45 = search rules in
+    let split : w ≡ 45 ∷ between 1 (length w) w = first_rest w 0 long ∙ ap (λ x. x ∷ between 1 (length w) w) first in
+    let mapped : c.map.result ≡ negated c.digits.result = search rules in
+    mapped ∙ ap negated c.digits.ensures ∙ minus-near (plain (between 1 (length w) w)) ∙ sym (ap (λ x. near (written x)) split)
