@@ -197,7 +197,9 @@ fn by_any_widths(rt: HostRuntime) -> Result<(), Fail> {
             seed: 1,
             letters: &[R],
         };
-        let tariff = Tariff::new(charges, widths).ok_or(Fail::new("no motif is charged"))?;
+        let Some(tariff) = Tariff::new(charges, widths) else {
+            return Err(Fail::new("no motif is charged"));
+        };
         assert_eq!(rt;
             price_by(&tariff, &forecast, order),
             Some(wanted),
