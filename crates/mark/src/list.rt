@@ -25,7 +25,7 @@ impl MarkList {
         ensures { IfOk result (λ l. listed l ≡ marks.now) }
     {
         let mut ends = Vec::with_capacity(heap, marks.len())?;
-        // By hand, since `collect` takes a quarter longer over the few marks of a page.
+        // By hand: over the four marks of a page `collect` makes the copy a sixth dearer.
         for mark in marks {
             ends.push(Key::by_end(*mark))?;
         }
